@@ -1,0 +1,125 @@
+//! Calls by name, so that a list of them can be given to register and book.
+
+use crate::book::{Book, Fed};
+use crate::register;
+
+/// What report words hold before a call, so that an untouched word shows.
+pub const UNTOUCHED: u32 = 0xA5A5_5A5A;
+
+#[derive(Clone, Debug, PartialEq, Eq)]
+pub enum Call {
+    Reset,
+    Start,
+    Stop,
+    /// The sample's words, and the length of the report.
+    Sample {
+        words: Vec<u32>,
+        report: usize,
+    },
+    PlaceCount(usize),
+    UnknownCount(usize),
+    ItemFigure(usize),
+    GroupFigure,
+}
+
+#[derive(Clone, Copy, Debug, PartialEq)]
+pub enum Answer {
+    Nothing,
+    Count(u32),
+    Item(Option<f64>),
+    Group(Option<u32>),
+}
+
+/// The refusal number, a question's answer, and the report's words.
+#[derive(Clone, Debug, PartialEq)]
+pub struct Outcome {
+    pub number: u32,
+    pub answer: Answer,
+    pub report: Vec<u32>,
+}
+
+impl Outcome {
+    fn of(number: u32) -> Outcome {
+        Outcome::with(number, Answer::Nothing)
+    }
+
+    fn with(number: u32, answer: Answer) -> Outcome {
+        Outcome {
+            number,
+            answer,
+            report: Vec::new(),
+        }
+    }
+}
+
+/// Gives a call to the register machine, the table's bytes with it.
+pub fn on_register(bytes: &[u8], words: &mut [u32], call: &Call) -> Outcome {
+    match call {
+        Call::Reset => Outcome::of(register::reset(bytes, words)),
+        Call::Start => Outcome::of(register::start(bytes, words)),
+        Call::Stop => Outcome::of(register::stop(bytes, words)),
+        Call::Sample {
+            words: sample,
+            report,
+        } => {
+            let mut report = vec![UNTOUCHED; *report];
+            let number = register::sample(bytes, words, sample, &mut report);
+            Outcome {
+                report,
+                ..Outcome::of(number)
+            }
+        }
+        Call::PlaceCount(place) => {
+            let (number, count) = register::place_count(bytes, words, *place);
+            Outcome::with(number, Answer::Count(count))
+        }
+        Call::UnknownCount(point) => {
+            let (number, count) = register::unknown_count(bytes, words, *point);
+            Outcome::with(number, Answer::Count(count))
+        }
+        Call::ItemFigure(item) => {
+            let (number, figure) = register::item_figure(bytes, words, *item);
+            Outcome::with(number, Answer::Item(figure))
+        }
+        Call::GroupFigure => {
+            let (number, figure) = register::group_figure(bytes, words);
+            Outcome::with(number, Answer::Group(figure))
+        }
+    }
+}
+
+/// Gives a call to the book.
+pub fn on_book(table: &Fed, book: &mut Book, call: &Call) -> Outcome {
+    match call {
+        Call::Reset => Outcome::of(book.reset(table)),
+        Call::Start => Outcome::of(book.start(table)),
+        Call::Stop => Outcome::of(book.stop(table)),
+        Call::Sample {
+            words: sample,
+            report,
+        } => {
+            let mut report = vec![UNTOUCHED; *report];
+            let number = book.sample(table, sample, &mut report);
+            Outcome {
+                report,
+                ..Outcome::of(number)
+            }
+        }
+        Call::PlaceCount(place) => {
+            let (number, count) = book.place_count(table, *place);
+            Outcome::with(number, Answer::Count(count))
+        }
+        Call::UnknownCount(point) => {
+            let (number, count) = book.unknown_count(table, *point);
+            Outcome::with(number, Answer::Count(count))
+        }
+        Call::ItemFigure(item) => {
+            let (number, figure) = book.item_figure(table, *item);
+            Outcome::with(number, Answer::Item(figure))
+        }
+        Call::GroupFigure => {
+            let (number, figure) = book.group_figure(table);
+            Outcome::with(number, Answer::Group(figure))
+        }
+    }
+}

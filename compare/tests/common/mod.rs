@@ -1,0 +1,180 @@
+//! Register machine and book side by side.
+#![allow(dead_code)]
+
+use compare::book::{Book, Fed, Rules};
+use compare::builder::Table;
+use compare::calls::{self, Answer, Call, Outcome, UNTOUCHED};
+use compare::register::Model;
+use compare::table;
+
+/// Words beyond the register, which no call may touch.
+pub const BEYOND: usize = 3;
+
+/// The same calls for a register and a book; every call compares them.
+pub struct Both {
+    pub table: Table,
+    pub bytes: Vec<u8>,
+    pub rules: Fed,
+    pub book: Book,
+    pub register: Vec<u32>,
+    pub done: Vec<Call>,
+    points: Vec<(u8, bool)>,
+}
+
+impl Both {
+    /// Begins with a reset of a register full of other words.
+    pub fn new(table: &Table) -> Both {
+        let bytes = table.bytes();
+        let measure = table::measure(&bytes);
+        assert_eq!(measure.number, 0, "table refused: {table:?}");
+        let mut both = Both {
+            table: table.clone(),
+            rules: Rules::read(&bytes),
+            book: Book::new(),
+            register: vec![UNTOUCHED; measure.words as usize + BEYOND],
+            done: Vec::new(),
+            points: table.points.iter().map(|p| (p.width, p.signed)).collect(),
+            bytes,
+        };
+        assert_eq!(both.call(&Call::Reset).number, 0);
+        both
+    }
+
+    /// Gives the call to both; they must answer alike, and a refused call must
+    /// change no word.
+    pub fn call(&mut self, call: &Call) -> Outcome {
+        let before = self.register.clone();
+        let by_register = calls::on_register(&self.bytes, &mut self.register, call);
+        let by_book = calls::on_book(&self.rules, &mut self.book, call);
+        self.done.push(call.clone());
+        if by_register != by_book {
+            self.fail(&format!("register {by_register:?}\n  book {by_book:?}"));
+        }
+        if by_register.number != 0 && self.register != before {
+            self.fail("a refused call wrote to the register");
+        }
+        by_register
+    }
+
+    /// The same call with another table, which both must refuse alike and which
+    /// may change nothing.
+    pub fn refused_call(&mut self, bytes: &[u8], call: &Call) -> u32 {
+        let before = (self.register.clone(), self.book.clone());
+        let by_register = calls::on_register(bytes, &mut self.register, call);
+        let by_book = calls::on_book(&Rules::read(bytes), &mut self.book, call);
+        assert_eq!(by_register, by_book, "table {}", compare::hex(bytes));
+        assert_ne!(by_register.number, 0, "table {}", compare::hex(bytes));
+        assert_eq!((&self.register, &self.book), (&before.0, &before.1));
+        by_register.number
+    }
+
+    /// All words alike, and the words beyond untouched.
+    pub fn compare_words(&self) {
+        let rules = self.rules.as_ref().expect("an accepted table");
+        let (words, beyond) = self.register.split_at(self.register.len() - BEYOND);
+        let expected = self.book.words(rules);
+        if words != expected {
+            self.fail(&format!("register {words:?}\n  book {expected:?}"));
+        }
+        if beyond != [UNTOUCHED; BEYOND] {
+            self.fail("words beyond the register were written");
+        }
+    }
+
+    fn fail(&self, what: &str) -> ! {
+        panic!(
+            "\n{what}\ntable {}\n{:?}\ncalls {:?}\nregister words {:?}",
+            compare::hex(&self.bytes),
+            self.table,
+            self.done,
+            self.register,
+        );
+    }
+
+    /// A sample with all guards true.
+    pub fn words(&self, readings: &[Reading]) -> Vec<u32> {
+        guarded(u64::MAX, 0, readings, &self.points)
+    }
+
+    /// Takes a sample with all guards true; returns the report.
+    pub fn sample(&mut self, readings: &[Reading]) -> Vec<u32> {
+        let words = self.words(readings);
+        self.sample_words(words)
+    }
+
+    /// Takes a sample with these guard bits.
+    pub fn sample_guarded(&mut self, guards: u64, unknown: u64, readings: &[Reading]) -> Vec<u32> {
+        let words = guarded(guards, unknown, readings, &self.points);
+        self.sample_words(words)
+    }
+
+    pub fn sample_words(&mut self, words: Vec<u32>) -> Vec<u32> {
+        let report = table::measure(&self.bytes).illegal_places as usize;
+        let outcome = self.call(&Call::Sample { words, report });
+        assert_eq!(outcome.number, 0);
+        self.compare_words();
+        outcome.report
+    }
+
+    /// Samples of a single point, one value after the other.
+    pub fn values(&mut self, values: &[i64]) {
+        for &value in values {
+            self.sample(&[Reading::Value(value)]);
+        }
+    }
+
+    pub fn count(&mut self, place: usize) -> u32 {
+        match self.call(&Call::PlaceCount(place)).answer {
+            Answer::Count(count) => count,
+            other => panic!("{other:?}"),
+        }
+    }
+
+    /// The counts of all places.
+    pub fn counts(&mut self) -> Vec<u32> {
+        let places = Model::read(&self.bytes).unwrap().layout().places;
+        (0..places).map(|place| self.count(place)).collect()
+    }
+
+    pub fn unknown(&mut self, point: usize) -> u32 {
+        match self.call(&Call::UnknownCount(point)).answer {
+            Answer::Count(count) => count,
+            other => panic!("{other:?}"),
+        }
+    }
+
+    pub fn figure(&mut self, item: usize) -> Option<f64> {
+        let outcome = self.call(&Call::ItemFigure(item));
+        assert_eq!(outcome.number, 0);
+        match outcome.answer {
+            Answer::Item(figure) => figure,
+            other => panic!("{other:?}"),
+        }
+    }
+
+    pub fn group(&mut self) -> Option<u32> {
+        match self.call(&Call::GroupFigure).answer {
+            Answer::Group(figure) => figure,
+            other => panic!("{other:?}"),
+        }
+    }
+}
+
+#[derive(Clone, Copy, Debug)]
+pub enum Reading {
+    Value(i64),
+    Unknown,
+}
+
+fn guarded(guards: u64, unknown: u64, readings: &[Reading], points: &[(u8, bool)]) -> Vec<u32> {
+    let halves = |bits: u64| [bits as u32, (bits >> 32) as u32];
+    let mut words = [halves(guards), halves(unknown)].concat();
+    for (reading, (width, _)) in readings.iter().zip(points) {
+        let ones = (1u64 << width) - 1;
+        words.extend(match reading {
+            Reading::Value(value) => [(*value as u64 & ones) as u32, 0],
+            Reading::Unknown => [0, 1],
+        });
+    }
+    words
+}

@@ -1,0 +1,4 @@
+pub mod Extra
+pub mod BinLaws
+pub mod RangeLaws
+pub mod Sound

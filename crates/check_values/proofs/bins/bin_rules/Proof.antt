@@ -1,0 +1,95 @@
+use Rattle.words.specs.Verdicts.{verdictIn}
+use Rattle.model.specs.Format.{binRules}
+use borrow.Author.Needs.{needs}
+use Rattle.check_values.proofs.bins.bin_rules.Statement.{statement}
+use Rattle.check_values.proofs.bins.bin_rules.Tie as tie
+
+add-sound : tie.Need-add-sound
+add-sound c = search needs
+
+sound-requires : tie.Need-sound-requires
+sound-requires c κs = search needs
+
+test-requires : tie.Need-test-requires
+test-requires c κs = search needs
+
+pick-requires : tie.Need-pick-requires
+pick-requires c κs = search needs
+
+add-test : tie.Need-add-test
+add-test c = search needs
+
+test-requires-2 : tie.Need-test-requires-2
+test-requires-2 c κs = search needs
+
+bin-guard-ok-requires : tie.Need-bin-guard-ok-requires
+bin-guard-ok-requires c κs = search needs
+
+add-test-2 : tie.Need-add-test-2
+add-test-2 c = search needs
+
+test-requires-3 : tie.Need-test-requires-3
+test-requires-3 c κs = search needs
+
+add-test-3 : tie.Need-add-test-3
+add-test-3 c = search needs
+
+test-requires-4 : tie.Need-test-requires-4
+test-requires-4 c κs = search needs
+
+add-test-4 : tie.Need-add-test-4
+add-test-4 c = search needs
+
+test-requires-5 : tie.Need-test-requires-5
+test-requires-5 c κs = search needs
+
+add-test-5 : tie.Need-add-test-5
+add-test-5 c = search needs
+
+test-requires-6 : tie.Need-test-requires-6
+test-requires-6 c κs = search needs
+
+add-test-6 : tie.Need-add-test-6
+add-test-6 c = search needs
+
+test-requires-7 : tie.Need-test-requires-7
+test-requires-7 c κs = search needs
+
+add-test-7 : tie.Need-add-test-7
+add-test-7 c = search needs
+
+test-requires-8 : tie.Need-test-requires-8
+test-requires-8 c κs = search needs
+
+test-requires-9 : tie.Need-test-requires-9
+test-requires-9 c κs = search needs
+
+returns : tie.Need-returns
+unfolding verdictIn binRules
+returns c = rw (c .test9 .ensures, c .before .test8 .ensures, c .before .before .test7 .ensures, c .before .before .before .test6 .ensures, c .before .before .before .before .test5 .ensures, c .before .before .before .before .before .test4 .ensures, c .before .before .before .before .before .before .test3 .ensures, c .before .before .before .before .before .before .before .bin-guard-ok .ensures, c .before .before .before .before .before .before .before .before .test2 .ensures, c .before .before .before .before .before .before .before .before .before .pick .ensures, c .before .before .before .before .before .before .before .before .before .before .test .ensures, c .before .before .before .before .before .before .before .before .before .before .before .sound .ensures)
+
+pub bin-rules-spec : {M : Type 1} → statement M
+bin-rules-spec =
+    tie.close
+    (tie.spec
+    add-sound
+    sound-requires
+    test-requires
+    pick-requires
+    add-test
+    test-requires-2
+    bin-guard-ok-requires
+    add-test-2
+    test-requires-3
+    add-test-3
+    test-requires-4
+    add-test-4
+    test-requires-5
+    add-test-5
+    test-requires-6
+    add-test-6
+    test-requires-7
+    add-test-7
+    test-requires-8
+    test-requires-9
+    returns)

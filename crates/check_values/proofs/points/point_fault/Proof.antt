@@ -1,0 +1,104 @@
+use Rattle.model.specs.Format.{readPoint}
+use Rattle.words.specs.Verdicts.{verdictIn}
+use Rattle.words.proofs.Laws.{verdict-record}
+use borrow.Author.Needs.{needs}
+use Rattle.check_values.proofs.points.point_fault.Statement.{statement}
+use Rattle.check_values.proofs.points.point_fault.Tie as tie
+
+add-end : tie.Need-add-end
+add-end c = search needs
+
+byte-requires : tie.Need-byte-requires
+byte-requires c κs = search needs
+
+add-read4 : tie.Need-add-read4
+add-read4 c = search needs
+
+read4-requires : tie.Need-read4-requires
+read4-requires c κs = search needs
+
+add-read2 : tie.Need-add-read2
+add-read2 c = search needs
+
+read2-requires : tie.Need-read2-requires
+read2-requires c κs = search needs
+
+add-test : tie.Need-add-test
+add-test c = search needs
+
+sound-requires : tie.Need-sound-requires
+sound-requires c κs = search needs
+
+test-requires : tie.Need-test-requires
+test-requires c κs = search needs
+
+add-test-2 : tie.Need-add-test-2
+add-test-2 c = search needs
+
+test-requires-2 : tie.Need-test-requires-2
+test-requires-2 c κs = search needs
+
+add-byte : tie.Need-add-byte
+add-byte c = search needs
+
+byte-requires-2 : tie.Need-byte-requires-2
+byte-requires-2 c κs = search needs
+
+guard-ok-requires : tie.Need-guard-ok-requires
+guard-ok-requires c κs = search needs
+
+add-test-3 : tie.Need-add-test-3
+add-test-3 c = search needs
+
+test-requires-3 : tie.Need-test-requires-3
+test-requires-3 c κs = search needs
+
+add-byte-2 : tie.Need-add-byte-2
+add-byte-2 c = search needs
+
+byte-requires-3 : tie.Need-byte-requires-3
+byte-requires-3 c κs = search needs
+
+add-test-4 : tie.Need-add-test-4
+add-test-4 c = search needs
+
+test-requires-4 : tie.Need-test-requires-4
+test-requires-4 c κs = search needs
+
+test-requires-5 : tie.Need-test-requires-5
+test-requires-5 c κs = search needs
+
+test-requires-6 : tie.Need-test-requires-6
+test-requires-6 c κs = search needs
+
+returns : tie.Need-returns
+unfolding readPoint verdictIn
+returns c = rw (verdict-record, c .test6 .ensures, c .before .test5 .ensures, c .before .before .test4 .ensures, c .before .before .before .byte3 .ensures, c .before .before .before .before .test3 .ensures, c .before .before .before .before .before .guard-ok .ensures, c .before .before .before .before .before .before .byte2 .ensures, c .before .before .before .before .before .before .before .test2 .ensures, c .before .before .before .before .before .before .before .before .test .ensures, c .before .before .before .before .before .before .before .before .before .sound .ensures, c .before .before .before .before .before .before .before .before .before .before .read2 .ensures, c .before .before .before .before .before .before .before .before .before .before .before .read4 .ensures, c .before .before .before .before .before .before .before .before .before .before .before .before .byte .ensures)
+
+pub point-fault-spec : {M : Type 1} → statement M
+point-fault-spec =
+    tie.close
+    (tie.spec
+    add-end
+    byte-requires
+    add-read4
+    read4-requires
+    add-read2
+    read2-requires
+    add-test
+    sound-requires
+    test-requires
+    add-test-2
+    test-requires-2
+    add-byte
+    byte-requires-2
+    guard-ok-requires
+    add-test-3
+    test-requires-3
+    add-byte-2
+    byte-requires-3
+    add-test-4
+    test-requires-4
+    test-requires-5
+    test-requires-6
+    returns)

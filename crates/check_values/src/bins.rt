@@ -1,0 +1,152 @@
+// Section 2: value bins.
+use crate::points::guard_ok;
+use words::bytes::byte;
+use words::bytes::read2;
+use words::counts::section_count;
+use words::verdicts::Verdict;
+use words::verdicts::sound;
+use words::verdicts::test;
+ghost use mathlib.Core.Path.{_≡_};
+ghost use mathlib.Core.Bool.{cond};
+ghost use mathlib.Core.List.{[]};
+ghost use Prim.Native.Nat.{_+_, _*_, _≤_};
+ghost use lib.Dec.{eqb};
+ghost use lib.ListN.{length};
+ghost use Rattle.model.specs.Lists.{any};
+ghost use Rattle.model.specs.Format.{binGuardOk, firstDefault, binHead, binRules, readBinHeads, readBinSection};
+ghost use Rattle.words.specs.Verdicts.{verdict, verdictOf, verdictIn};
+ghost use Rattle.check_values.specs.Places.{defaultsUpTo, readBin, isDefaultOf};
+
+fn pick(c: bool, a: bool, b: bool) -> bool
+    ensures { λ r. ⌜ r ≡ cond c a b ⌝ }
+{
+    if c { a } else { b }
+}
+
+pub fn bin_guard_ok(kind: u8, g: u8) -> bool
+    ensures { λ r. ⌜ r ≡ binGuardOk kind g ⌝ }
+{
+    guard_ok(g) & (!(kind == 1) | (g == 255))
+}
+
+// Whether the bin at at is a default of point p.
+fn default_at(t: &[u8], at: usize, p: u8) -> bool
+    requires { ⌜ at ≤ 1000000 ⌝ }
+    ensures { λ r. ⌜ r ≡ isDefaultOf (now (t .entry)) p at ⌝ }
+{
+    let kind = byte(t, at + 1);
+    (3 <= kind) & (p == byte(t, at))
+}
+
+// Whether one of the first count bins is a default of point p.
+fn has_default(t: &[u8], base: usize, p: u8, count: usize) -> bool
+    requires { ⌜ (base ≤ 65536) × (count ≤ 65536) ⌝ }
+    ensures { λ r. ⌜ r ≡ any (eqb p) (defaultsUpTo (now (t .entry)) base count) ⌝ }
+{
+    let mut k = count;
+    while 0 < k {
+        k -= 1;
+        if default_at(t, base + 8 * k, p) {
+            return true;
+        }
+    }
+    false
+}
+
+// Whether bin i is no second default of its point.
+fn first_default(t: &[u8], base: usize, i: usize) -> bool
+    requires { ⌜ (base ≤ 65536) × (i ≤ 65536) ⌝ }
+    ensures { λ r. ⌜ r ≡ firstDefault (binHead (now (t .entry)) (base + 8 * i)) (defaultsUpTo (now (t .entry)) base i) ⌝ }
+{
+    let at = base + 8 * i;
+    let kind = byte(t, at + 1);
+    if 3 <= kind {
+        !has_default(t, base, byte(t, at), i)
+    } else {
+        true
+    }
+}
+
+// A bin's fields; first says that it is no second default.
+fn bin_rules(
+    points: usize,
+    point: usize,
+    kind: u8,
+    form: u8,
+    number: u16,
+    guard: u8,
+    ranges: u16,
+    first: bool,
+    at: usize,
+) -> Verdict
+    requires { ⌜ at ≤ 65536 ⌝ }
+    ensures { λ r. ⌜ r ≡ verdictIn (binRules points point kind form number guard ranges first at) (verdict 0 (at + 8)) ⌝ }
+{
+    let r9 = test(first, 7, at, sound(at + 8));
+    let r8 = test(pick(kind == 3, ranges == 0, 1 <= ranges), 3, at + 6, r9);
+    let r7 = test(bin_guard_ok(kind, guard), 6, at + 5, r8);
+    let r6 = test((form == 2) | (number == 0), 5, at + 3, r7);
+    let r5 = test(
+        !(form == 2) | ((1 <= number) & (number <= 256)),
+        6,
+        at + 3,
+        r6,
+    );
+    let r4 = test((kind == 0) | (form == 0), 6, at + 2, r5);
+    let r3 = test(form <= 2, 6, at + 2, r4);
+    let r2 = test(kind <= 3, 6, at + 1, r3);
+    test(point < points, 6, at, r2)
+}
+
+// Bin i of those from base on.
+fn bin_fault(t: &[u8], points: usize, base: usize, i: usize) -> Verdict
+    requires { ⌜ (base + 8 * i ≤ length (now t)) × (length (now t) ≤ 65536) ⌝ }
+    ensures { λ r. ⌜ r ≡ verdictOf (readBin (now (t .entry)) points base i (base + 8 * i)) ⌝ }
+{
+    let at = base + 8 * i;
+    let whole = at + 8 <= t.len();
+    let number = read2(t, at + 3);
+    let ranges = read2(t, at + 6);
+    let first = first_default(t, base, i);
+    let rest = bin_rules(
+        points,
+        byte(t, at) as usize,
+        byte(t, at + 1),
+        byte(t, at + 2),
+        number,
+        byte(t, at + 5),
+        ranges,
+        first,
+        at,
+    );
+    test(whole, 2, at, rest)
+}
+
+// n bins from base on.
+fn bins_fault(t: &[u8], points: usize, n: usize, base: usize) -> Verdict
+    requires { ⌜ (base ≤ length (now t)) × (length (now t) ≤ 65536) ⌝ }
+    ensures { λ r. ⌜ r ≡ verdictOf (readBinHeads (now (t .entry)) points n [] base) ⌝ }
+{
+    let mut i = 0;
+    while i < n {
+        let r = bin_fault(t, points, base, i);
+        if r.class != 0 {
+            return r;
+        }
+        i += 1;
+    }
+    sound(base + 8 * n)
+}
+
+// The section whose count stands at at; points is how many points there are.
+pub fn bin_section(t: &[u8], points: usize, at: usize) -> Verdict
+    requires { ⌜ (at ≤ length (now t)) × (length (now t) ≤ 65536) ⌝ }
+    ensures { λ r. ⌜ r ≡ verdictOf (readBinSection (now (t .entry)) points at) ⌝ }
+{
+    let c = section_count(t, 0, 512, at);
+    if c.class != 0 {
+        return c;
+    }
+    let n = read2(t, at) as usize;
+    bins_fault(t, points, n, c.at)
+}

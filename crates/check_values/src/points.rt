@@ -1,0 +1,67 @@
+// Section 1: points.
+use words::bytes::byte;
+use words::bytes::read2;
+use words::bytes::read4;
+use words::counts::section_count;
+use words::verdicts::Verdict;
+use words::verdicts::sound;
+use words::verdicts::test;
+ghost use mathlib.Core.Path.{_≡_};
+ghost use Prim.Native.Nat.{_≤_};
+ghost use lib.ListN.{length};
+ghost use Rattle.model.specs.Format.{guardOk, readPoint, times, readPointSection};
+ghost use Rattle.words.specs.Verdicts.{verdictOf};
+
+pub fn guard_ok(g: u8) -> bool
+    ensures { λ r. ⌜ r ≡ guardOk g ⌝ }
+{
+    (g <= 63) | (g == 255)
+}
+
+fn point_fault(t: &[u8], at: usize) -> Verdict
+    requires { ⌜ (at ≤ length (now t)) × (length (now t) ≤ 65536) ⌝ }
+    ensures { λ r. ⌜ r ≡ verdictOf (readPoint (now (t .entry)) at) ⌝ }
+{
+    let end = at + 11;
+    let whole = end <= t.len();
+    let width = byte(t, at);
+    let least = read4(t, at + 5);
+    let most = read2(t, at + 9);
+    let e = test((1 <= most) & (most <= 256), 6, at + 9, sound(end));
+    let d = test(1 <= least, 6, at + 5, e);
+    let c = test(guard_ok(byte(t, at + 2)), 6, at + 2, d);
+    let b = test(byte(t, at + 1) <= 1, 6, at + 1, c);
+    let a = test((1 <= width) & (width <= 32), 6, at, b);
+    test(whole, 2, at, a)
+}
+
+// n points from start on.
+fn points_fault(t: &[u8], n: usize, start: usize) -> Verdict
+    requires { ⌜ (start ≤ length (now t)) × (length (now t) ≤ 65536) ⌝ }
+    ensures { λ r. ⌜ r ≡ verdictOf (times n (readPoint (now (t .entry))) start) ⌝ }
+{
+    let mut at = start;
+    let mut i = 0;
+    while i < n {
+        let r = point_fault(t, at);
+        if r.class != 0 {
+            return r;
+        }
+        at = r.at;
+        i += 1;
+    }
+    sound(at)
+}
+
+// The section whose count stands at at.
+pub fn point_section(t: &[u8], at: usize) -> Verdict
+    requires { ⌜ (at ≤ length (now t)) × (length (now t) ≤ 65536) ⌝ }
+    ensures { λ r. ⌜ r ≡ verdictOf (readPointSection (now (t .entry)) at) ⌝ }
+{
+    let c = section_count(t, 1, 16, at);
+    if c.class != 0 {
+        return c;
+    }
+    let n = read2(t, at) as usize;
+    points_fault(t, n, c.at)
+}

@@ -1,0 +1,52 @@
+use Rattle.words.specs.Verdicts.{verdictIn}
+use Rattle.model.specs.Format.{valueTests}
+use Rattle.ranges.specs.Types.{fits, valueAt}
+use borrow.Author.Needs.{needs}
+use Rattle.ranges.proofs.value_tests.Statement.{statement}
+use Rattle.ranges.proofs.value_tests.Tie as tie
+
+value-at-requires : tie.Need-value-at-requires
+value-at-requires c κs = search needs
+
+value-at-requires-2 : tie.Need-value-at-requires-2
+value-at-requires-2 c κs = search needs
+
+add-test : tie.Need-add-test
+add-test c = search needs
+
+test-requires : tie.Need-test-requires
+test-requires c κs = search needs
+
+fits-requires : tie.Need-fits-requires
+fits-requires c κs = search needs
+
+add-test-2 : tie.Need-add-test-2
+add-test-2 c = search needs
+
+test-requires-2 : tie.Need-test-requires-2
+test-requires-2 c κs = search needs
+
+fits-requires-2 : tie.Need-fits-requires-2
+fits-requires-2 c κs = search needs
+
+test-requires-3 : tie.Need-test-requires-3
+test-requires-3 c κs = search needs
+
+returns : tie.Need-returns
+unfolding verdictIn valueTests fits valueAt
+returns c = rw (c .test3 .ensures, c .before .fits3 .ensures, c .before .before .test2 .ensures, c .before .before .before .fits2 .ensures, c .before .before .before .before .test .ensures, c .before .before .before .before .before .value-at2 .ensures, c .before .before .before .before .before .before .value-at .ensures)
+
+pub value-tests-spec : {M : Type 1} → statement M
+value-tests-spec =
+    tie.close
+    (tie.spec
+    value-at-requires
+    value-at-requires-2
+    add-test
+    test-requires
+    fits-requires
+    add-test-2
+    test-requires-2
+    fits-requires-2
+    test-requires-3
+    returns)

@@ -1,0 +1,130 @@
+// Values and ranges in a point's type: the tests on a record's i64 fields.
+use words::bytes::byte;
+use words::bytes::read8;
+use words::verdicts::Verdict;
+use words::verdicts::choose;
+use words::verdicts::sound;
+use words::verdicts::test;
+ghost use mathlib.Core.Path.{_≡_};
+ghost use mathlib.Core.Bool.{true};
+ghost use Prim.Native.Nat.{ℕ, _+_, _≤_};
+ghost use lib.ListN.{length};
+ghost use Rattle.model.specs.Format.{valueTests, patternTests, rangeRules, readRange, pointRecord, times};
+ghost use Rattle.words.specs.Verdicts.{verdict, verdictOf, verdictIn};
+ghost use Rattle.ranges.specs.Types.{typed, powerOf, fits, valueAt, lowestOf, Wide};
+
+pub fn power(width: u8) -> u64
+    requires { ⌜ width ≤ 32 ⌝ }
+    ensures { λ r. ⌜ (r ≡ powerOf width) × (1 ≤ r) × (r ≤ 4294967296) ⌝ }
+{
+    1 << width
+}
+
+// The value of an i64 field's bits, as the definitions number values: the value plus 2^31.
+pub fn value_at(bits: u64) -> u64
+    ensures { λ r. ⌜ r ≡ valueAt bits ⌝ }
+{
+    std::num::wrapping_add_u64(bits, 2147483648)
+}
+
+fn half(width: u8) -> u64
+    requires { ⌜ (1 ≤ width) × (width ≤ 32) ⌝ }
+    ensures { λ r. ⌜ (r ≡ lowestOf width true) × (r ≤ 2147483648) ⌝ }
+{
+    2147483648 - power(width - 1)
+}
+
+// The lowest value of a type.
+pub fn lowest(width: u8, signed: bool) -> u64
+    requires { ⌜ (1 ≤ width) × (width ≤ 32) ⌝ }
+    ensures { λ r. ⌜ (r ≡ lowestOf width signed) × (r ≤ 2147483648) ⌝ }
+{
+    if signed { half(width) } else { 2147483648 }
+}
+
+pub fn fits(width: u8, signed: bool, v: u64) -> bool
+    requires { ⌜ (1 ≤ width) × (width ≤ 32) ⌝ }
+    ensures { λ r. ⌜ r ≡ fits width signed v ⌝ }
+{
+    let low = lowest(width, signed);
+    (low <= v) & (v <= low + power(width) - 1)
+}
+
+// Two i64 fields from at on; then what rest says.
+pub fn value_tests(width: u8, signed: bool, a: u64, b: u64, at: usize, rest: Verdict) -> Verdict
+    requires { ⌜ (1 ≤ width) × (width ≤ 32) × (at ≤ 100000) ⌝ }
+    ensures { λ r. ⌜ r ≡ verdictIn (valueTests (typed width signed) a b at) rest ⌝ }
+{
+    let va = value_at(a);
+    let vb = value_at(b);
+    let r3 = test(va <= vb, 4, at + 8, rest);
+    let r2 = test(fits(width, signed, vb), 4, at + 8, r3);
+    test(fits(width, signed, va), 4, at, r2)
+}
+
+fn pattern_tests(width: u8, signed: bool, a: u64, b: u64, at: usize, rest: Verdict) -> Verdict
+    requires { ⌜ (1 ≤ width) × (width ≤ 32) × (at ≤ 100000) ⌝ }
+    ensures { λ r. ⌜ r ≡ verdictIn (patternTests (typed width signed) a b at) rest ⌝ }
+{
+    let all = power(width);
+    let r3 = test(a & b == a, 4, at + 8, rest);
+    let r2 = test(b < all, 4, at + 8, r3);
+    test(a < all, 4, at, r2)
+}
+
+fn range_rules(
+    width: u8,
+    signed: bool,
+    patterns: bool,
+    kind: u8,
+    a: u64,
+    b: u64,
+    at: usize,
+) -> Verdict
+    requires { ⌜ (1 ≤ width) × (width ≤ 32) × (at ≤ 65536) ⌝ }
+    ensures { λ r. ⌜ r ≡ verdictIn (rangeRules (typed width signed) patterns kind a b at) (verdict 0 (at + 17)) ⌝ }
+{
+    let end = sound(at + 17);
+    let v = value_tests(width, signed, a, b, at + 1, end);
+    let p = pattern_tests(width, signed, a, b, at + 1, end);
+    let rest = choose(kind == 0, v, p);
+    test(
+        (kind == 0) | ((kind == 1) & patterns & !signed),
+        6,
+        at,
+        rest,
+    )
+}
+
+// The range at at, of the point whose record is at point.
+fn range_fault(t: &[u8], point: usize, patterns: bool, at: usize) -> Verdict
+    requires { ⌜ (at ≤ length (now t)) × (point ≤ 65536) × (length (now t) ≤ 65536) × Wide (now t) point ⌝ }
+    ensures { λ r. ⌜ r ≡ verdictOf (readRange (now (t .entry)) (pointRecord (now (t .entry)) point) patterns at) ⌝ }
+{
+    let whole = at + 17 <= t.len();
+    let width = byte(t, point);
+    let signed = byte(t, point + 1);
+    let kind = byte(t, at);
+    let a = read8(t, at + 1);
+    let b = read8(t, at + 9);
+    let rest = range_rules(width, signed == 1, patterns, kind, a, b, at);
+    test(whole, 2, at, rest)
+}
+
+// n ranges from start on.
+pub fn ranges_of(t: &[u8], point: usize, patterns: bool, n: usize, start: usize) -> Verdict
+    requires { ⌜ (start ≤ length (now t)) × (point ≤ 65536) × (length (now t) ≤ 65536) × Wide (now t) point ⌝ }
+    ensures { λ r. ⌜ r ≡ verdictOf (times n (readRange (now (t .entry)) (pointRecord (now (t .entry)) point) patterns) start) ⌝ }
+{
+    let mut at = start;
+    let mut i = 0;
+    while i < n {
+        let r = range_fault(t, point, patterns, at);
+        if r.class != 0 {
+            return r;
+        }
+        at = r.at;
+        i += 1;
+    }
+    sound(at)
+}

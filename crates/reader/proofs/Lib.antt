@@ -1,0 +1,3 @@
+pub mod Extra
+pub mod Laws
+pub mod Front

@@ -1,0 +1,42 @@
+use Rattle.model.specs.Format.{u16}
+use borrow.Author.Needs.{needs}
+use Rattle.words.proofs.bytes.read2.Statement.{statement}
+use Rattle.words.proofs.bytes.read2.Tie as tie
+
+byte-requires : tie.Need-byte-requires
+byte-requires c κs = search needs
+
+add-byte : tie.Need-add-byte
+add-byte c = search needs
+
+byte-requires-2 : tie.Need-byte-requires-2
+byte-requires-2 c κs = search needs
+
+cast-result : tie.Need-cast-result
+cast-result c = search needs
+
+cast-result-2 : tie.Need-cast-result-2
+cast-result-2 c = search needs
+
+mul-result : tie.Need-mul-result
+mul-result c = search needs
+
+add-result : tie.Need-add-result
+add-result c = search needs
+
+returns : tie.Need-returns
+unfolding u16
+returns c = search needs
+
+pub read2-spec : {M : Type 1} → statement M
+read2-spec =
+    tie.close
+    (tie.spec
+    byte-requires
+    add-byte
+    byte-requires-2
+    cast-result
+    cast-result-2
+    mul-result
+    add-result
+    returns)
