@@ -5,11 +5,14 @@
 //! * [`register`] is the direct sampler over register words.
 //! * [`book`] keeps only the accepted samples and recomputes everything from them.
 //! * [`calls`] names the calls, so that register and book can be given the same list.
+//! * `library` calls the library itself (feature `library`).
 //! * [`random`] draws tables, damaged tables, call lists and foreign registers.
 
 pub mod book;
 pub mod builder;
 pub mod calls;
+#[cfg(feature = "library")]
+pub mod library;
 pub mod random;
 pub mod register;
 pub mod table;

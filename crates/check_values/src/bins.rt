@@ -1,8 +1,8 @@
 // Section 2: value bins.
-use crate::points::guard_ok;
 use words::bytes::byte;
 use words::bytes::read2;
 use words::counts::section_count;
+use words::guards::bin_guard_ok;
 use words::verdicts::Verdict;
 use words::verdicts::sound;
 use words::verdicts::test;
@@ -13,7 +13,7 @@ ghost use Prim.Native.Nat.{_+_, _*_, _≤_};
 ghost use lib.Dec.{eqb};
 ghost use lib.ListN.{length};
 ghost use Rattle.model.specs.Lists.{any};
-ghost use Rattle.model.specs.Format.{binGuardOk, firstDefault, binHead, binRules, readBinHeads, readBinSection};
+ghost use Rattle.model.specs.Format.{firstDefault, binHead, binRules, readBinHeads, readBinSection};
 ghost use Rattle.words.specs.Verdicts.{verdict, verdictOf, verdictIn};
 ghost use Rattle.check_values.specs.Places.{defaultsUpTo, readBin, isDefaultOf};
 
@@ -21,12 +21,6 @@ fn pick(c: bool, a: bool, b: bool) -> bool
     ensures { λ r. ⌜ r ≡ cond c a b ⌝ }
 {
     if c { a } else { b }
-}
-
-pub fn bin_guard_ok(kind: u8, g: u8) -> bool
-    ensures { λ r. ⌜ r ≡ binGuardOk kind g ⌝ }
-{
-    guard_ok(g) & (!(kind == 1) | (g == 255))
 }
 
 // Whether the bin at at is a default of point p.

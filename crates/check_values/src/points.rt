@@ -3,20 +3,15 @@ use words::bytes::byte;
 use words::bytes::read2;
 use words::bytes::read4;
 use words::counts::section_count;
+use words::guards::guard_ok;
 use words::verdicts::Verdict;
 use words::verdicts::sound;
 use words::verdicts::test;
 ghost use mathlib.Core.Path.{_≡_};
 ghost use Prim.Native.Nat.{_≤_};
 ghost use lib.ListN.{length};
-ghost use Rattle.model.specs.Format.{guardOk, readPoint, times, readPointSection};
+ghost use Rattle.model.specs.Format.{readPoint, times, readPointSection};
 ghost use Rattle.words.specs.Verdicts.{verdictOf};
-
-pub fn guard_ok(g: u8) -> bool
-    ensures { λ r. ⌜ r ≡ guardOk g ⌝ }
-{
-    (g <= 63) | (g == 255)
-}
 
 fn point_fault(t: &[u8], at: usize) -> Verdict
     requires { ⌜ (at ≤ length (now t)) × (length (now t) ≤ 65536) ⌝ }

@@ -15,12 +15,8 @@ use Rattle.words.specs.Verdicts.{verdictOf}
 use Rattle.model.specs.Raw.{rows}
 use Rattle.words.specs.Sums.{sumFrom}
 use Rattle.words.specs.declared.verdicts.Verdict.{Verdict}
+use Rattle.model.proofs.RawLaws.{Says}
 use Rattle.words.proofs.Laws.{verdict-stop, verdict-done, record-got, sound-record, times-got, class-of, then-sound, sound-got, record-in}
-
-pub length-rows : {A : Type 0} (says : ℕ → A) (size at n : ℕ) → length (rows says size at n) ≡ n
-unfolding rows
-length-rows says size at zero = refl
-length-rows says size at (suc n) = ap suc (length-rows says size (at + size) n)
 
 pub bind-stop : {A B : Type 0} (m : Reader A) (k : A → Reader B) (at : ℕ) (r : Verdict) → r ≡ verdictOf (m at) → (r .class ≡ 0 → ⊥) → r ≡ verdictOf (_>>=_ m k at)
 unfolding _>>=_
@@ -72,19 +68,42 @@ module _ {A : Type 0} (s : List ℕ) (size : ℕ) (tests : ℕ → List Test) (s
       let y : r .at ≡ at + size * n = ap (λ (q : Verdict). q .at) (e ∙ ap verdictOf (times-got s size tests says n at z₁)) in
       omega (arith, times-within n at h z₁)
 
--- the count of an owned section, given what its owners own together
+-- ---- what is said of a reader, where nothing was refused
+
+pub says-sound : {A : Type 0} (m : Read A) (a : A) (end len : ℕ) (r : Verdict) → Says m a end len → r ≡ verdictOf m → r .class ≡ 0 → (m ≡ got a end) × (r .at ≡ end) × (end ≤ len)
+says-sound m a end len r h e z = sound-got m r e z λ b g. let y = h b (r .at) g in (g ∙ ap₂ got (y .0) (y .1), y .1, y .2)
+
+-- where it ended is in the table
+pub says-in : {A : Type 0} (m : Read A) (a : A) (end len : ℕ) (r : Verdict) → Says m a end len → r ≡ verdictOf m → r .class ≡ 0 → r .at ≤ len
+says-in m a end len r h e z = let y = says-sound m a end len r h e z in let l = y .2 in let q = y .1 in omega arith
+
+-- reading goes on with what is said
+pub says-on : {A B : Type 0} (m : Reader A) (k : A → Reader B) (at : ℕ) (a : A) (end len : ℕ) (q y : Verdict) → Says (m at) a end len → q ≡ verdictOf (m at) → q .class ≡ 0
+    → y ≡ verdictOf (k a (q .at)) → y ≡ verdictOf (_>>=_ m k at)
+says-on m k at a end len q y h e z f = bind-got m k at a end q y e (says-sound (m at) a end len q h e z .0) f
+
+-- ---- the count of an owned section, given what its owners own together
+
+module _ {B : Type 0} (s : List ℕ) (hi at sum total : ℕ) (k : ℕ → Reader B) (own : sum ≡ total) where
+  pub count-stop : (r : Verdict) → r ≡ verdictOf (ownedCount s hi sum at) → (r .class ≡ 0 → ⊥) → r ≡ verdictOf (_>>=_ (ownedCount s hi total) k at)
+  count-stop r e z = bind-stop (ownedCount s hi total) k at r (e ∙ ap (λ (x : ℕ). verdictOf (ownedCount s hi x at)) own) z
+
+  pub count-on : (q y : Verdict) → q ≡ verdictOf (ownedCount s hi sum at) → q .class ≡ 0 → y ≡ verdictOf (k (u16 s at) (q .at)) → y ≡ verdictOf (_>>=_ (ownedCount s hi total) k at)
+  count-on q y e z h =
+      record-on s 2 (λ at. (leb (u16 s at) hi, count, at) ∷ (eqb (u16 s at) total, disagreement, at) ∷ []) (u16 s) k at (u16 s at) q y
+      (e ∙ ap (λ (x : ℕ). verdictOf (ownedCount s hi x at)) own) z refl h
+
+-- the same where the sum is one over records in a row
 module _ {A B : Type 0} (f : A → ℕ) (says : ℕ → A) (size base n : ℕ) (s : List ℕ) (hi at sum : ℕ) (k : ℕ → Reader B) (own : sum ≡ sumFrom 0 f says size base n) where
   total-is : sum ≡ sumOf f (rows says size base n)
   unfolding sumFrom
   total-is = let y : sum ≡ 0 + sumOf f (rows says size base n) = own in omega arith
 
   pub owned-stop : (r : Verdict) → r ≡ verdictOf (ownedCount s hi sum at) → (r .class ≡ 0 → ⊥) → r ≡ verdictOf (_>>=_ (ownedCount s hi (sumOf f (rows says size base n))) k at)
-  owned-stop r e z = bind-stop (ownedCount s hi (sumOf f (rows says size base n))) k at r (e ∙ ap (λ (x : ℕ). verdictOf (ownedCount s hi x at)) total-is) z
+  owned-stop r e z = count-stop s hi at sum (sumOf f (rows says size base n)) k total-is r e z
 
   pub owned-on : (q y : Verdict) → q ≡ verdictOf (ownedCount s hi sum at) → q .class ≡ 0 → y ≡ verdictOf (k (u16 s at) (q .at)) → y ≡ verdictOf (_>>=_ (ownedCount s hi (sumOf f (rows says size base n))) k at)
-  owned-on q y e z h =
-      record-on s 2 (λ at. (leb (u16 s at) hi, count, at) ∷ (eqb (u16 s at) (sumOf f (rows says size base n)), disagreement, at) ∷ []) (u16 s) k at (u16 s at) q y
-      (e ∙ ap (λ (x : ℕ). verdictOf (ownedCount s hi x at)) total-is) z refl h
+  owned-on q y e z h = count-on s hi at sum (sumOf f (rows says size base n)) k total-is q y e z h
 
 pub ruleset chain = (needs, record-in, bind-stop, bind-done, record-on, rows-on, owned-stop, owned-on)
 

@@ -1,6 +1,6 @@
 use borrow.Author.Needs.{needs}
-use Rattle.check_values.proofs.bins.bin_guard_ok.Statement.{statement}
-use Rattle.check_values.proofs.bins.bin_guard_ok.Tie as tie
+use Rattle.words.proofs.guards.bin_guard_ok.Statement.{statement}
+use Rattle.words.proofs.guards.bin_guard_ok.Tie as tie
 
 guard-ok-requires : tie.Need-guard-ok-requires
 guard-ok-requires c κs = search needs
