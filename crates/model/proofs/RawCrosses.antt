@@ -1,7 +1,7 @@
 -- Sections 8 to 10 by their places: what was got of them is what `Raw` says.
 -- Assumes nothing.
-use mathlib.Core.Path.{_≡_, refl, sym, ap, _∙_, subst}
-use mathlib.Core.List.{List, [], _∷_}
+use mathlib.Core.Path.{_≡_, refl, sym, ap}
+use mathlib.Core.List.{List, []}
 use mathlib.Core.Option.{Option}
 use Prim.Native.Nat.{ℕ, zero, suc, _+_, _*_, _≤_}
 use native.Mathlib.Omega.{arith}
@@ -11,7 +11,7 @@ use Rattle.model.specs.Table.{Point, Select}
 use Rattle.model.specs.Format.{BinHead, Read, got, times, each, byte, u16, sectionCount, crossPoints, crossTests, crossHead, crossBinsOwned, readCross, crossBinTests, crossBinHead, readCrossBin, readCrossBins, tokensOf, tokensOwned, tokenTests, tokenRecord, readToken, expressions, oneExpression, readSelect, readSelects, readCrossSection, readCrossBinSection, readTokenSection, readCrosses}
 use Rattle.model.specs.Raw.{rows, crossBinHeadsAt, crossHeadsAt, tokenTotal, onlyOf, selectAt, crossBinAt, crossBinsAt, crossAt, crossesAt}
 use Rattle.model.proofs.Readers.{done-elim}
-use Rattle.model.proofs.RawLaws.{Says, says-to, says-bind, says-owned, says-done, says-record, says-cons, says-got, says-times}
+use Rattle.model.proofs.RawLaws.{Says, says-to, says-bind, says-owned, says-record, says-cons, says-got, says-times}
 use Rattle.model.proofs.AccessCrosses.{one-expression}
 
 -- ---- section 8
@@ -59,7 +59,7 @@ token-total s points zero b = refl
 token-total s points (suc n) b = ap (byte s (b + 2) +_) (token-total s points n (b + 3))
 
 module _ (s : List ℕ) (ps : List Point) (bins : List BinHead) where
-  select-of : (c b k : ℕ) → k ≤ length s → Says (readSelect s ps bins (crossBinHead s (crossPoints s c) b) k) (crossBinAt s b k) (k + 20 * byte s (b + 2)) (length s)
+  pub select-of : (c b k : ℕ) → k ≤ length s → Says (readSelect s ps bins (crossBinHead s (crossPoints s c) b) k) (crossBinAt s b k) (k + 20 * byte s (b + 2)) (length s)
   unfolding readSelect readToken selectAt
   select-of c b k h =
       let n = byte s (b + 2) in
@@ -68,7 +68,7 @@ module _ (s : List ℕ) (ps : List Point) (bins : List BinHead) where
       λ l. says-bind (oneExpression (expressions ks)) _ (k + 20 * n) (onlyOf (expressions ks)) (k + 20 * n) _ _ (length s) (says-one (expressions ks) (k + 20 * n) (length s) l)
       λ l. says-got _ (k + 20 * n) (length s) l
 
-  selects-in : (c n b k : ℕ) → k ≤ length s → Says (each (readSelect s ps bins) (crossBinHeadsAt s c b n) k) (crossBinsAt s b k n) (k + 20 * tokenTotal s b n) (length s)
+  pub selects-in : (c n b k : ℕ) → k ≤ length s → Says (each (readSelect s ps bins) (crossBinHeadsAt s c b n) k) (crossBinsAt s b k n) (k + 20 * tokenTotal s b n) (length s)
   unfolding each rows crossBinsAt tokenTotal sumOf
   selects-in c zero b k h = says-to _ _ k (k + 20 * 0) (length s) (omega arith) (says-got [] k (length s) h)
   selects-in c (suc n) b k h =
@@ -77,7 +77,7 @@ module _ (s : List ℕ) (ps : List Point) (bins : List BinHead) where
       (says-cons (readSelect s ps bins (crossBinHead s (crossPoints s c) b) k) (each (readSelect s ps bins) (crossBinHeadsAt s c (b + 3) n)) _ (k + 20 * m) (crossBinsAt s (b + 3) (k + 20 * m) n) _ (length s)
       (select-of c b k h) (λ l. selects-in c n (b + 3) (k + 20 * m) l))
 
-  cross-of : (c b k : ℕ) → k ≤ length s → Says (readSelects s ps bins (record { head = crossHead s c; bins = crossBinHeadsAt s c b (byte s (c + 12)) }) k) (crossAt s c b k) (k + 20 * tokenTotal s b (byte s (c + 12))) (length s)
+  pub cross-of : (c b k : ℕ) → k ≤ length s → Says (readSelects s ps bins (record { head = crossHead s c; bins = crossBinHeadsAt s c b (byte s (c + 12)) }) k) (crossAt s c b k) (k + 20 * tokenTotal s b (byte s (c + 12))) (length s)
   unfolding readSelects
   cross-of c b k h =
       let n = byte s (c + 12) in

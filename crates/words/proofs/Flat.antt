@@ -60,6 +60,17 @@ cons-verdict m k = then-verdict m _ (λ next. verdictOf (k next)) (λ a at. verd
 
 -- ---- records in a row, cut anywhere
 
+-- readers with the same verdicts
+pub times-same : {A B : Type 0} (one : Reader A) (other : Reader B) → ((at : ℕ) → verdictOf (one at) ≡ verdictOf (other at))
+    → (n at : ℕ) → verdictOf (times n one at) ≡ verdictOf (times n other at)
+unfolding times
+times-same one other h zero at = unfold verdictOf in refl
+times-same one other h (suc n) at =
+    cons-verdict (one at) (times n one)
+    ∙ ap (λ (v : Verdict). goesOn v (λ next. verdictOf (times n one next))) (h at)
+    ∙ goes-same (verdictOf (other at)) _ _ (times-same one other h n)
+    ∙ sym (cons-verdict (other at) (times n other))
+
 pub times-add : {A : Type 0} (one : Reader A) (a b at : ℕ) → verdictOf (times (a + b) one at) ≡ goesOn (verdictOf (times a one at)) (λ next. verdictOf (times b one next))
 unfolding times
 times-add one zero b at = ap (λ (n : ℕ). verdictOf (times n one at)) (let y : 0 + b ≡ b = omega arith in y) ∙ (unfold goesOn unlessClass verdictOf in refl)

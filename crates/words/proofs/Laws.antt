@@ -4,7 +4,7 @@
 use Prim.Native.Nat.{ℕ, zero, suc, _+_, _*_, _-_, _<_, _≤_}
 use mathlib.Core.Path.{_≡_, refl, ap, ap₂, sym, _∙_}
 use mathlib.Core.Bool.{Bool, true, false, cond}
-use mathlib.Core.List.{List, [], _∷_}
+use mathlib.Core.List.{List, [], _∷_, _++_}
 use native.Mathlib.Nat.{sub-zero}
 use native.Mathlib.Omega.{arith}
 use lib.Dec.{leb}
@@ -29,6 +29,23 @@ unfolding tested verdictOf verdictIn
 verdict-tested [] r = refl
 verdict-tested ((true, class, at) ∷ tests) r = verdict-tested tests r
 verdict-tested ((false, class, at) ∷ tests) r = refl
+
+pub verdict-in-append : (xs ys : List Test) (f : Verdict) → verdictIn (xs ++ ys) f ≡ verdictIn xs (verdictIn ys f)
+unfolding verdictIn
+verdict-in-append [] ys f = refl
+verdict-in-append ((true, class, at) ∷ xs) ys f = verdict-in-append xs ys f
+verdict-in-append ((false, class, at) ∷ xs) ys f = refl
+
+-- one of two tests
+pub verdict-in-choice : (b : Bool) (x y : Test) (tests : List Test) (f : Verdict)
+    → verdictIn (cond b x y ∷ tests) f ≡ cond b (verdictIn (x ∷ tests) f) (verdictIn (y ∷ tests) f)
+verdict-in-choice true x y tests f = refl
+verdict-in-choice false x y tests f = refl
+
+-- what comes after a test counts only where it passes
+pub unless-same : (b : Bool) (class at : ℕ) (x y : Verdict) → (b ≡ true → x ≡ y) → unlessOk b class at x ≡ unlessOk b class at y
+unless-same true class at x y h = h refl
+unless-same false class at x y h = refl
 
 pub verdict-record : {A : Type 0} (s : List ℕ) (size : ℕ) (tests : ℕ → List Test) (says : ℕ → A) (at : ℕ)
     → verdictOf (readRecord s size tests says at) ≡ unlessOk (leb (at + size) (length s)) 2 at (verdictIn (tests at) (verdict 0 (at + size)))

@@ -1,0 +1,4 @@
+pub mod CrossLaws
+pub mod TokenLaws
+pub mod SelectLaws
+pub mod Sections

@@ -1,0 +1,114 @@
+// Section 8: crosses.
+use words::bytes::byte;
+use words::bytes::read2;
+use words::bytes::read4;
+use words::counts::section_count;
+use words::guards::guard_ok;
+use words::verdicts::Verdict;
+use words::verdicts::choose;
+use words::verdicts::sound;
+use words::verdicts::test;
+ghost use mathlib.Core.Path.{_≡_};
+ghost use mathlib.Core.List.{[], _∷_};
+ghost use Prim.Native.Nat.{_+_, _≤_};
+ghost use lib.ListN.{length};
+ghost use Rattle.model.specs.Format.{crossPointTest, readCross, times, readCrossSection};
+ghost use Rattle.words.specs.Verdicts.{verdict, verdictOf, verdictIn};
+ghost use Rattle.check_crosses.specs.Crosses.{pairsDiffer, pointsDiffer, crossEnd};
+
+// Whether the first n of four points are different, n from 2 to 4.
+fn pairs_differ(n: u8, a: u8, b: u8, c: u8, d: u8) -> bool
+    ensures { λ r. ⌜ r ≡ pairsDiffer n a b c d ⌝ }
+{
+    let three = 3 <= n;
+    let four = 4 <= n;
+    let first = (a == b) | ((three & (a == c)) | (four & (a == d)));
+    let second = (three & (b == c)) | (four & (b == d));
+    !first & (!second & !(four & (c == d)))
+}
+
+fn points_differ(t: &[u8], at: usize) -> bool
+    requires { ⌜ at ≤ 65536 ⌝ }
+    ensures { λ r. ⌜ r ≡ pointsDiffer (now (t .entry)) at ⌝ }
+{
+    let n = byte(t, at);
+    let a = byte(t, at + 1);
+    let b = byte(t, at + 2);
+    let c = byte(t, at + 3);
+    let d = byte(t, at + 4);
+    pairs_differ(n, a, b, c, d)
+}
+
+// The tests after those on the points.
+fn cross_end(t: &[u8], at: usize) -> Verdict
+    requires { ⌜ at ≤ 65536 ⌝ }
+    ensures { λ r. ⌜ r ≡ verdictIn (crossEnd (now (t .entry)) at) (verdict 0 (at + 13)) ⌝ }
+{
+    let different = points_differ(t, at);
+    let bins = byte(t, at + 12);
+    let least = read4(t, at + 8);
+    let guard = guard_ok(byte(t, at + 5));
+    let d = test(different, 7, at, sound(at + 13));
+    let c = test(bins <= 16, 3, at + 12, d);
+    let b = test(1 <= least, 6, at + 8, c);
+    test(guard, 6, at + 5, b)
+}
+
+// The i-th of the four points: one of the table's, or unused.
+fn point_test(t: &[u8], points: usize, at: usize, i: usize, rest: Verdict) -> Verdict
+    requires { ⌜ (at ≤ 65536) × (i ≤ 3) ⌝ }
+    ensures { λ r. ⌜ r ≡ verdictIn (crossPointTest (now (t .entry)) points at i ∷ []) rest ⌝ }
+{
+    let place = at + 1 + i;
+    let p = byte(t, place) as usize;
+    let n = byte(t, at) as usize;
+    let used = test(p < points, 6, place, rest);
+    let free = test(p == 255, 5, place, rest);
+    choose(i < n, used, free)
+}
+
+fn cross(t: &[u8], points: usize, at: usize) -> Verdict
+    requires { ⌜ (at ≤ length (now t)) × (length (now t) ≤ 65536) ⌝ }
+    ensures { λ r. ⌜ r ≡ verdictOf (readCross (now (t .entry)) points at) ⌝ }
+{
+    let whole = at + 13 <= t.len();
+    let n = byte(t, at);
+    let e = cross_end(t, at);
+    let d = point_test(t, points, at, 3, e);
+    let c = point_test(t, points, at, 2, d);
+    let b = point_test(t, points, at, 1, c);
+    let a = point_test(t, points, at, 0, b);
+    let f = test((2 <= n) & (n <= 4), 6, at, a);
+    test(whole, 2, at, f)
+}
+
+// n crosses from start on.
+fn crosses_of(t: &[u8], points: usize, n: usize, start: usize) -> Verdict
+    requires { ⌜ (start ≤ length (now t)) × (length (now t) ≤ 65536) ⌝ }
+    ensures { λ r. ⌜ r ≡ verdictOf (times n (readCross (now (t .entry)) points) start) ⌝ }
+{
+    let mut at = start;
+    let mut i = 0;
+    while i < n {
+        let r = cross(t, points, at);
+        if r.class != 0 {
+            return r;
+        }
+        at = r.at;
+        i += 1;
+    }
+    sound(at)
+}
+
+// Section 8, at at, in a table with that many points.
+pub fn cross_section(t: &[u8], points: usize, at: usize) -> Verdict
+    requires { ⌜ (at ≤ length (now t)) × (length (now t) ≤ 65536) ⌝ }
+    ensures { λ r. ⌜ r ≡ verdictOf (readCrossSection (now (t .entry)) points at) ⌝ }
+{
+    let c = section_count(t, 0, 8, at);
+    if c.class != 0 {
+        return c;
+    }
+    let n = read2(t, at) as usize;
+    crosses_of(t, points, n, c.at)
+}

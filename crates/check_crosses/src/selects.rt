@@ -1,0 +1,198 @@
+// Section 10: the expressions that select tokens make, cross bin by cross bin.
+use crate::bins::owned_bins;
+use crate::tokens::tokens;
+use words::bytes::byte;
+use words::counts::owned_count;
+use words::verdicts::Verdict;
+use words::verdicts::sound;
+use words::verdicts::test;
+ghost use mathlib.Core.Path.{_≡_};
+ghost use mathlib.Core.List.{[]};
+ghost use Prim.Native.Nat.{_+_, _*_, _-_, _≤_};
+ghost use lib.ListN.{length};
+ghost use Rattle.model.specs.Format.{binHead, crossPoints, crossBinHead, tokensOf, tokenRecord, expressions, each, readSelect, readSelects, readTokenSection};
+ghost use Rattle.model.specs.Raw.{rows, pointsAt, crossBinHeadsAt, crossHeadsAt};
+ghost use Rattle.words.specs.Verdicts.{verdictOf};
+ghost use Rattle.words.specs.Sums.{sumFrom};
+ghost use Rattle.ranges.specs.Types.{AllWide};
+ghost use Rattle.check_crosses.specs.Crosses.{CrossOk, CrossesOk, found, wantedAfter, lacks};
+
+// How many expressions are wanted after a token, given how many were before it.
+fn wanted_after(op: u8, wanted: usize) -> usize
+    requires { ⌜ (1 ≤ wanted) × (wanted ≤ 65536) ⌝ }
+    ensures { λ r. ⌜ r ≡ wantedAfter op wanted ⌝ }
+{
+    if op <= 2 {
+        wanted - 1
+    } else if op <= 3 {
+        wanted
+    } else {
+        wanted + 1
+    }
+}
+
+// Whether no token is wanted, or a not stands before no leaf.
+fn lacks(op: u8, next: u8, wanted: usize) -> bool
+    ensures { λ r. ⌜ r ≡ lacks op next wanted ⌝ }
+{
+    (wanted == 0) | ((op == 3) & (2 < next))
+}
+
+// Whether n tokens from start on are one expression.
+fn one_expression(t: &[u8], n: usize, start: usize) -> bool
+    requires { ⌜ (start ≤ 65536) × (n ≤ 255) ⌝ }
+    ensures { λ r. ⌜ r ≡ found 1 (expressions (rows (tokenRecord (now (t .entry))) 20 start n)) ⌝ }
+{
+    let mut at = start;
+    let mut wanted = 1;
+    let mut i = 0;
+    while i < n {
+        let op = byte(t, at);
+        let next = byte(t, at + 20);
+        if lacks(op, next, wanted) {
+            return false;
+        }
+        wanted = wanted_after(op, wanted);
+        at += 20;
+        i += 1;
+    }
+    wanted == 0
+}
+
+// Where the last of the tokens that end at end stands.
+fn last_token(end: usize) -> usize
+    ensures { λ r. ⌜ r ≡ end - 20 ⌝ }
+{
+    if end < 20 { 0 } else { end - 20 }
+}
+
+// The tokens from at on of the cross bin at b, of the cross at c. points, bins: the places of the first of np points and of nb value bins.
+fn select(
+    t: &[u8],
+    points: usize,
+    np: usize,
+    bins: usize,
+    nb: usize,
+    c: usize,
+    b: usize,
+    at: usize,
+) -> Verdict
+    requires { ⌜ (at ≤ length (now t)) × (length (now t) ≤ 65536) × (points + 11 * np ≤ length (now t)) × (bins ≤ 65536) × (c ≤ 65536) × (b ≤ 10000000) ⌝ }
+    requires { ⌜ AllWide (now t) points np × CrossOk (now t) np c ⌝ }
+    ensures { λ r. ⌜ r ≡ verdictOf (readSelect (now (t .entry)) (pointsAt (now (t .entry)) points np) (rows (binHead (now (t .entry))) 8 bins nb) (crossBinHead (now (t .entry)) (crossPoints (now (t .entry)) c) b) at) ⌝ }
+{
+    let n = byte(t, b + 2) as usize;
+    let r = tokens(t, points, np, bins, nb, c, n, at);
+    if r.class != 0 {
+        return r;
+    }
+    let end = r.at;
+    let one = one_expression(t, n, at);
+    test(one, 7, last_token(end), sound(end))
+}
+
+// The tokens of n cross bins of the cross at c, the first of them at b.
+fn selects(
+    t: &[u8],
+    points: usize,
+    np: usize,
+    bins: usize,
+    nb: usize,
+    c: usize,
+    b: usize,
+    n: usize,
+    start: usize,
+) -> Verdict
+    requires { ⌜ (start ≤ length (now t)) × (length (now t) ≤ 65536) × (points + 11 * np ≤ length (now t)) × (bins ≤ 65536) × (c ≤ 65536) × (b ≤ 9000000) × (n ≤ 255) ⌝ }
+    requires { ⌜ AllWide (now t) points np × CrossOk (now t) np c ⌝ }
+    ensures { λ r. ⌜ r ≡ verdictOf (each (readSelect (now (t .entry)) (pointsAt (now (t .entry)) points np) (rows (binHead (now (t .entry))) 8 bins nb)) (crossBinHeadsAt (now (t .entry)) c b n) start) ⌝ }
+{
+    let mut at = start;
+    let mut bin = b;
+    let mut i = 0;
+    while i < n {
+        let r = select(t, points, np, bins, nb, c, bin, at);
+        if r.class != 0 {
+            return r;
+        }
+        at = r.at;
+        bin += 3;
+        i += 1;
+    }
+    sound(at)
+}
+
+// The tokens of all bins of n crosses, the first of them at c, the first of their bins at b.
+fn all_selects(
+    t: &[u8],
+    points: usize,
+    np: usize,
+    bins: usize,
+    nb: usize,
+    c: usize,
+    b: usize,
+    n: usize,
+    start: usize,
+) -> Verdict
+    requires { ⌜ (start ≤ length (now t)) × (length (now t) ≤ 65536) × (points + 11 * np ≤ length (now t)) × (bins ≤ 65536) × (c + 13 * n ≤ length (now t)) × (b ≤ length (now t)) ⌝ }
+    requires { ⌜ AllWide (now t) points np × CrossesOk (now t) np c n ⌝ }
+    ensures { λ r. ⌜ r ≡ verdictOf (each (readSelects (now (t .entry)) (pointsAt (now (t .entry)) points np) (rows (binHead (now (t .entry))) 8 bins nb)) (crossHeadsAt (now (t .entry)) c b n) start) ⌝ }
+{
+    let mut at = start;
+    let mut cross = c;
+    let mut bin = b;
+    let mut i = 0;
+    while i < n {
+        let k = byte(t, cross + 12) as usize;
+        let r = selects(t, points, np, bins, nb, cross, bin, k, at);
+        if r.class != 0 {
+            return r;
+        }
+        at = r.at;
+        cross += 13;
+        bin += 3 * k;
+        i += 1;
+    }
+    sound(at)
+}
+
+// The tokens that n cross bins own.
+fn owned_tokens(t: &[u8], n: usize, base: usize) -> usize
+    requires { ⌜ (base ≤ 65536) × (n ≤ 2000000) ⌝ }
+    ensures { λ r. ⌜ r ≡ sumFrom 0 tokensOf (crossBinHead (now (t .entry)) []) 3 base n ⌝ }
+{
+    let mut sum = 0;
+    let mut at = base;
+    let mut i = 0;
+    while i < n {
+        sum += byte(t, at + 2) as usize;
+        at += 3;
+        i += 1;
+    }
+    sum
+}
+
+// Section 10, at at. points, bins, c, b: the places of the first of np points, of nb value bins, of n crosses and of their cross bins.
+pub fn token_section(
+    t: &[u8],
+    points: usize,
+    np: usize,
+    bins: usize,
+    nb: usize,
+    c: usize,
+    b: usize,
+    n: usize,
+    at: usize,
+) -> Verdict
+    requires { ⌜ (at ≤ length (now t)) × (length (now t) ≤ 65536) × (points + 11 * np ≤ length (now t)) × (bins + 8 * nb ≤ length (now t)) × (c + 13 * n ≤ length (now t)) × (b ≤ length (now t)) ⌝ }
+    requires { ⌜ AllWide (now t) points np × CrossesOk (now t) np c n ⌝ }
+    ensures { λ r. ⌜ r ≡ verdictOf (readTokenSection (now (t .entry)) (pointsAt (now (t .entry)) points np) (rows (binHead (now (t .entry))) 8 bins nb) (crossHeadsAt (now (t .entry)) c b n) at) ⌝ }
+{
+    let m = owned_bins(t, n, c);
+    let sum = owned_tokens(t, m, b);
+    let r = owned_count(t, 1024, sum, at);
+    if r.class != 0 {
+        return r;
+    }
+    all_selects(t, points, np, bins, nb, c, b, n, r.at)
+}
