@@ -31,3 +31,6 @@ pub mod RawValues
 pub mod RawTransitions
 pub mod RawCrosses
 pub mod RawExact
+-- what measuring counts
+pub mod Measure
+pub mod MeasureBounds

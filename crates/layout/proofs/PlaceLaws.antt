@@ -1,0 +1,101 @@
+-- A section stands where the records of the one before it end.
+-- Assumes nothing.
+use Prim.Native.Nat.{ℕ, suc, _+_, _*_, _≤_}
+use mathlib.Core.Path.{_≡_, refl, ap, _∙_}
+use mathlib.Core.List.{List}
+use native.Mathlib.Nat.{mul-le-mul}
+use native.Mathlib.Omega.{arith}
+use lib.ListN.{getD}
+use Rattle.model.specs.Format.{recordSizes}
+use Rattle.model.specs.Raw.{countPlace, recordCount, recordsPlace}
+use Rattle.layout.specs.Places.{sectionFrom, sectionOf, Near, Small, layoutOf}
+use Rattle.layout.specs.declared.Section.{Section}
+use Rattle.layout.specs.declared.Layout.{Layout}
+
+pub product-small : (a b : ℕ) → a ≤ 65535 → b ≤ 20 → a * b ≤ 1310700
+product-small a b h k = mul-le-mul h k
+
+pub first-section : (s : List ℕ) → sectionFrom s 0 ≡ sectionOf s 0
+unfolding countPlace recordCount recordsPlace
+first-section s = refl
+
+pub next-section : (s : List ℕ) (k : ℕ) (b r : Section) → b ≡ sectionOf s k → r ≡ sectionFrom s (b .at + b .count * getD recordSizes k 0) → r ≡ sectionOf s (suc k)
+unfolding countPlace recordCount recordsPlace
+next-section s k b r e h = h ∙ ap (λ (x : Section). sectionFrom s (x .at + x .count * getD recordSizes k 0)) e
+
+-- the ten sections, each after the one before it
+abbrev pub layoutWith : Section → Section → Section → Section → Section → Section → Section → Section → Section → Section → Layout
+layoutWith a b c d e f g h i j = record {
+  points = a .at;
+  «point_count» = a .count;
+  bins = b .at;
+  «bin_count» = b .count;
+  ranges = c .at;
+  «range_count» = c .count;
+  transitions = d .at;
+  «transition_count» = d .count;
+  sequences = e .at;
+  «sequence_count» = e .count;
+  steps = f .at;
+  «step_count» = f .count;
+  «step_ranges» = g .at;
+  «step_range_count» = g .count;
+  crosses = h .at;
+  «cross_count» = h .count;
+  «cross_bins» = i .at;
+  «cross_bin_count» = i .count;
+  tokens = j .at;
+  «token_count» = j .count;
+}
+
+module _ {s : List ℕ} {a b c d e f g h i j : Section} (na : Near s 0 a)
+    (nb : Near s (a .at + a .count * 11) b)
+    (nc : Near s (b .at + b .count * 8) c)
+    (nd : Near s (c .at + c .count * 17) d)
+    (ne : Near s (d .at + d .count * 4) e)
+    (nf : Near s (e .at + e .count * 1) f)
+    (ng : Near s (f .at + f .count * 3) g)
+    (nh : Near s (g .at + g .count * 17) h)
+    (ni : Near s (h .at + h .count * 13) i)
+    (nj : Near s (i .at + i .count * 3) j) where
+  laid-out : layoutWith a b c d e f g h i j ≡ layoutOf s
+  unfolding layoutOf
+  laid-out =
+      let ea : a ≡ sectionOf s 0 = na .is ∙ first-section s in
+      let eb : b ≡ sectionOf s 1 = next-section s 0 a b ea (nb .is) in
+      let ec : c ≡ sectionOf s 2 = next-section s 1 b c eb (nc .is) in
+      let ed : d ≡ sectionOf s 3 = next-section s 2 c d ec (nd .is) in
+      let ee : e ≡ sectionOf s 4 = next-section s 3 d e ed (ne .is) in
+      let ef : f ≡ sectionOf s 5 = next-section s 4 e f ee (nf .is) in
+      let eg : g ≡ sectionOf s 6 = next-section s 5 f g ef (ng .is) in
+      let eh : h ≡ sectionOf s 7 = next-section s 6 g h eg (nh .is) in
+      let ei : i ≡ sectionOf s 8 = next-section s 7 h i eh (ni .is) in
+      let ej : j ≡ sectionOf s 9 = next-section s 8 i j ei (nj .is) in
+      rw (ea, eb, ec, ed, ee, ef, eg, eh, ei, ej)
+
+  laid-small : Small (layoutWith a b c d e f g h i j)
+  laid-small = record {
+    points = omega arith;
+    point-count = omega arith;
+    bins = omega arith;
+    bin-count = omega arith;
+    ranges = omega arith;
+    range-count = omega arith;
+    transitions = omega arith;
+    transition-count = omega arith;
+    sequences = omega arith;
+    sequence-count = omega arith;
+    steps = omega arith;
+    step-count = omega arith;
+    step-ranges = omega arith;
+    step-range-count = omega arith;
+    crosses = omega arith;
+    cross-count = omega arith;
+    cross-bins = omega arith;
+    cross-bin-count = omega arith;
+    tokens = omega arith;
+    token-count = omega arith;
+  }
+
+  pub laid : (layoutWith a b c d e f g h i j ≡ layoutOf s) × Small (layoutWith a b c d e f g h i j)
+  laid = (laid-out, laid-small)

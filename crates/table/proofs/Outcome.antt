@@ -1,0 +1,94 @@
+-- What the whole check says, from what the sections and the limits say.
+-- Assumes nothing.
+use Prim.Native.Nat.{ℕ, _+_, _-_, _≤_, _<_}
+use mathlib.Core.Path.{_≡_, refl, sym, ap, ap₂, _∙_}
+use mathlib.Core.Bool.{Bool, true, false, cond}
+use mathlib.Core.List.{List}
+use native.Mathlib.Omega.{arith}
+use lib.Dec.{leb, eqb}
+use lib.ListN.{length}
+use borrow.Author.Tests.{le-leb, lt-leb, eq-eqb, ne-eqb}
+use Rattle.model.specs.Table.{Table}
+use Rattle.model.specs.Counters.{withinLimits}
+use Rattle.model.specs.Format.{FaultClass, tooLong, cut, count, value, unused, field, disagreement, leftover, limits, numberOf, Fault, Read, refused, got, readTable, Outcome, rejected, decoded, limited, wholeRead, decode}
+use Rattle.model.specs.Raw.{countPlace, rawTable}
+use Rattle.model.proofs.RawExact.{table-placed}
+use Rattle.words.specs.Verdicts.{verdict, codeOf, verdictOf}
+use Rattle.words.specs.declared.verdicts.Verdict.{Verdict}
+use Rattle.words.proofs.Laws.{code-not-none}
+use Rattle.words.proofs.Chain.{says-sound}
+use Rattle.table.specs.Check.{outcomeVerdict, checked, numberFor}
+
+module _ (s : List ℕ) where
+  pub too-long : 65536 < length s → verdict 1 0 ≡ checked s
+  unfolding checked decode outcomeVerdict
+  too-long h = rw (lt-leb (length s) 65536 h)
+
+  module _ (h : length s ≤ 65536) (r : Verdict) (e : r ≡ verdictOf (readTable s 0)) where
+    whole : checked s ≡ outcomeVerdict (length s) (wholeRead (length s) (readTable s 0))
+    unfolding checked decode
+    whole = rw (le-leb (length s) 65536 h)
+
+    pub sections-stop : (r .class ≡ 0 → ⊥) → r ≡ checked s
+    unfolding verdictOf outcomeVerdict
+    sections-stop z = go (readTable s 0) e ∙ sym whole
+      where
+        go : (m : Read Table) → r ≡ verdictOf m → r ≡ outcomeVerdict (length s) (wholeRead (length s) m)
+        go (refused f) e = e
+        go (got t at) e = absurd (z (ap (λ (q : Verdict). q .class) e))
+
+    module _ (z : r .class ≡ 0) where
+      read : (readTable s 0 ≡ got (rawTable s) (r .at)) × (r .at ≡ countPlace s 10)
+      read = let y = says-sound (readTable s 0) (rawTable s) (countPlace s 10) (length s) r (table-placed s) e z in (y .0 ∙ ap (got (rawTable s)) (sym (y .1)), y .1)
+
+      outcome : checked s ≡ outcomeVerdict (length s) (cond (eqb (r .at) (length s)) (limited (length s) (rawTable s)) (rejected (record { class = leftover; at = r .at })))
+      outcome = whole ∙ ap (λ (m : Read Table). outcomeVerdict (length s) (wholeRead (length s) m)) (read .0)
+
+      pub left-over : (r .at ≡ length s → ⊥) → verdict 8 (r .at) ≡ checked s
+      unfolding outcomeVerdict
+      left-over n = sym (outcome ∙ rw (ne-eqb (r .at) (length s) n))
+
+      module _ (y : r .at ≡ length s) where
+        pub readable : readTable s 0 ≡ got (rawTable s) (length s)
+        readable = read .0 ∙ ap (got (rawTable s)) y
+
+        last : checked s ≡ outcomeVerdict (length s) (limited (length s) (rawTable s))
+        last = outcome ∙ rw (eq-eqb (r .at) (length s) y)
+
+        pub all-passed : (w : Bool) → w ≡ withinLimits (rawTable s) → w ≡ true → verdict 0 (length s) ≡ checked s
+        unfolding outcomeVerdict
+        all-passed w e₁ e₂ = sym (last ∙ rw (sym e₁ ∙ e₂))
+
+        pub over-limits : (w : Bool) → w ≡ withinLimits (rawTable s) → w ≡ false → verdict 9 (length s) ≡ checked s
+        unfolding outcomeVerdict
+        over-limits w e₁ e₂ = sym (last ∙ rw (sym e₁ ∙ e₂))
+
+-- the class's number is the model's
+pub number-of-code : (c : FaultClass) → numberFor (codeOf c) ≡ numberOf c
+unfolding numberFor
+number-of-code tooLong = refl
+number-of-code cut = refl
+number-of-code count = refl
+number-of-code value = refl
+number-of-code unused = refl
+number-of-code field = refl
+number-of-code disagreement = refl
+number-of-code leftover = refl
+number-of-code limits = refl
+
+-- what a verdict tells of the outcome
+pub accepted-outcome : (s : List ℕ) (v : Verdict) → v ≡ checked s → v .class ≡ 0 → (P : Type 0) → ((t : Table) → decode s ≡ decoded t → P) → P
+unfolding checked outcomeVerdict
+accepted-outcome s v e z P k = go (decode s) refl e
+  where
+    go : (o : Outcome) → decode s ≡ o → v ≡ outcomeVerdict (length s) o → P
+    go (rejected f) d e = absurd (code-not-none (f .class) (sym (ap (λ (q : Verdict). q .class) e) ∙ z))
+    go (decoded t) d e = k t d
+
+pub refused-outcome : (s : List ℕ) (v : Verdict) → v ≡ checked s → (v .class ≡ 0 → ⊥) → (P : Type 0) → ((f : Fault) → decode s ≡ rejected f → v .class ≡ codeOf (f .class) → P) → P
+unfolding checked outcomeVerdict
+refused-outcome s v e z P k = go (decode s) refl e
+  where
+    go : (o : Outcome) → decode s ≡ o → v ≡ outcomeVerdict (length s) o → P
+    go (rejected f) d e = k f d (ap (λ (q : Verdict). q .class) e)
+    go (decoded t) d e = absurd (z (ap (λ (q : Verdict). q .class) e))

@@ -1,0 +1,37 @@
+-- What the check of a table says, and the answer to measuring it.
+-- Assumes nothing.
+use Prim.Native.Nat.{ℕ, _-_}
+use mathlib.Core.Bool.{cond}
+use mathlib.Core.List.{List}
+use lib.Dec.{leb}
+use lib.ListN.{length}
+use Rattle.model.specs.Table.{Point, Table}
+use Rattle.model.specs.Format.{Reader, _>>=_, done, BinHead, readRangeSection, readTransitionBins, readCrosses, Outcome, rejected, decoded, decode}
+use Rattle.model.specs.Register as Model
+use Rattle.words.specs.Verdicts.{verdict, codeOf}
+use Rattle.words.specs.declared.verdicts.Verdict.{Verdict}
+use Rattle.table.specs.declared.answer.Measure.{Measure}
+
+-- the outcome as a verdict: its fault, or no fault and the table's length
+unfoldable pub outcomeVerdict : ℕ → Outcome → Verdict
+outcomeVerdict size (rejected f) = verdict (codeOf (f .class)) (f .at)
+outcomeVerdict size (decoded t) = verdict 0 size
+
+unfoldable pub checked : List ℕ → Verdict
+checked s = outcomeVerdict (length s) (decode s)
+
+-- document 01's refusal number of a class's code (`number-of-code` of proofs/CheckLaws.antt: the model's `numberOf`)
+unfoldable pub numberFor : ℕ → ℕ
+numberFor n = cond (leb n 3) n (cond (leb n 6) 3 (n - 3))
+
+-- the model's `readTable` from section 3 on
+unfoldable pub afterBins : List ℕ → List Point → List BinHead → Reader Table
+afterBins s ps heads = do
+  bins ← readRangeSection s ps heads
+  ts ← readTransitionBins s ps
+  cs ← readCrosses s ps heads
+  done (record { points = ps; valueBins = bins; transitionBins = ts; crosses = cs })
+
+-- the model's measure, field by field
+abbrev pub measureOf : List ℕ → Measure
+measureOf s = record { number = Model.measure s .number; words = Model.measure s .words; «illegal_places» = Model.measure s .illegals }

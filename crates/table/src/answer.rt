@@ -1,0 +1,6 @@
+// The refusal number, the words of a register, and the words of a report; 0 and 0 if the table is refused.
+pub struct Measure {
+    pub number: u32,
+    pub words: u32,
+    pub illegal_places: u32,
+}

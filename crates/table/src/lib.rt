@@ -1,0 +1,46 @@
+// A table's bytes: every byte string is checked, measured and asked for its sections.
+pub mod answer;
+pub mod check;
+
+use crate::answer::Measure;
+use crate::check::check;
+use crate::check::number_for;
+use limits::illegal_total;
+use limits::words_needed;
+use reader::section_bytes;
+ghost use mathlib.Core.Path.{_≡_};
+ghost use Rattle.model.specs.Register as Model;
+ghost use Rattle.table.specs.Check.{measureOf};
+
+pub fn measure(table: &[u8]) -> Measure
+    ensures { λ r. ⌜ r ≡ measureOf (now (table .entry)) ⌝ }
+{
+    let v = check(table);
+    let class = v.class;
+    if class != 0 {
+        let number = number_for(class);
+        return Measure {
+            number: number,
+            words: 0,
+            illegal_places: 0,
+        };
+    }
+    let words = words_needed(table);
+    let illegal = illegal_total(table);
+    Measure {
+        number: 0,
+        words: words as u32,
+        illegal_places: illegal as u32,
+    }
+}
+
+// The records of section 1 to 10 as they stand in the table, without the count; none if the table is refused, or for another number.
+pub fn section(table: &[u8], number: u32) -> &[u8]
+    ensures { λ r. ⌜ now r ≡ Model.section (now (table .entry)) number ⌝ }
+{
+    let v = check(table);
+    if v.class != 0 {
+        return &table[0..0];
+    }
+    section_bytes(table, number)
+}
