@@ -13,6 +13,7 @@ use Rattle.model.specs.Table.{Table}
 use Rattle.model.specs.Format.{u16, recordSizes, sectionFrom, decoded, decode, sectionOf}
 use Rattle.model.specs.Raw.{countPlace, recordCount, recordsPlace}
 use Rattle.reader.specs.Parts.{sectionPart, sectionBytes}
+use Rattle.reader.proofs.Laws.{section-end}
 
 module _ (s : List ℕ) where
   -- the walk from section j + 1 on, n sections further
@@ -33,6 +34,16 @@ module _ (s : List ℕ) where
   unfolding countPlace
   places-rise zero j k e = let d : j ≡ k = omega arith in rw d (omega arith)
   places-rise (suc n) j k e = omega (arith, places-rise n (suc j) k (omega arith))
+
+  -- every section ends within a table within which the tenth does
+  pub section-within : countPlace s 10 ≤ length s → (number : ℕ) → sectionPart s number .to ≤ length s
+  unfolding sectionPart
+  section-within g zero = omega arith
+  section-within g (suc k) = go (ltb k 10) refl
+    where
+      go : (b : Bool) → ltb k 10 ≡ b → sectionPart s (suc k) .to ≤ length s
+      go true e = let h = ltb-true k 10 e in omega (arith, section-end s k h, places-rise (9 - k) (suc k) 10 (omega arith))
+      go false e = rw e (omega arith)
 
   -- section k + 1, which ends where the next count would stand
   pub section-front : (k : ℕ) → k < 10 → countPlace s (suc k) ≤ length s → sectionBytes s (suc k) ≡ sectionFrom s 0 recordSizes k

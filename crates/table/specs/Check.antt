@@ -1,16 +1,19 @@
 -- What the check of a table says, and the answer to measuring it.
 -- Assumes nothing.
-use Prim.Native.Nat.{ℕ, _-_}
+use Prim.Native.Nat.{ℕ, _+_, _-_, _≤_}
+use mathlib.Core.Path.{_≡_}
 use mathlib.Core.Bool.{cond}
 use mathlib.Core.List.{List}
 use lib.Dec.{leb}
-use lib.ListN.{length}
+use lib.ListN.{length, take, drop}
 use Rattle.model.specs.Table.{Point, Table}
 use Rattle.model.specs.Format.{Reader, _>>=_, done, BinHead, readRangeSection, readTransitionBins, readCrosses, Outcome, rejected, decoded, decode}
 use Rattle.model.specs.Register as Model
 use Rattle.words.specs.Verdicts.{verdict, codeOf}
 use Rattle.words.specs.declared.verdicts.Verdict.{Verdict}
 use Rattle.table.specs.declared.answer.Measure.{Measure}
+use Rattle.table.specs.declared.answer.Place.{Place}
+use Rattle.reader.specs.Parts.{sectionPart}
 
 -- the outcome as a verdict: its fault, or no fault and the table's length
 unfoldable pub outcomeVerdict : ℕ → Outcome → Verdict
@@ -35,3 +38,18 @@ afterBins s ps heads = do
 -- the model's measure, field by field
 abbrev pub measureOf : List ℕ → Measure
 measureOf s = record { number = Model.measure s .number; words = Model.measure s .words; «illegal_places» = Model.measure s .illegals }
+
+-- where a section's records begin: 0 for a refused table
+abbrev pub startOf : Outcome → List ℕ → ℕ → ℕ
+startOf (rejected f) s number = 0
+startOf (decoded t) s number = sectionPart s number .from
+
+unfoldable pub sectionStart : List ℕ → ℕ → ℕ
+sectionStart s number = startOf (decode s) s number
+
+-- The place of a section: the bytes that stand there are the model's section, and they are within the table.
+pub record SectionAt (s : List ℕ) (number : ℕ) (p : Place) : Type 0 where
+  pub refusal : p .refusal ≡ Model.measure s .number
+  pub start : p .start ≡ sectionStart s number
+  pub bytes : take (p .len) (drop (p .start) s) ≡ Model.section s number
+  pub within : p .start + p .len ≤ length s

@@ -4,3 +4,10 @@ pub struct Measure {
     pub words: u32,
     pub illegal_places: u32,
 }
+
+// The table's refusal number, and where a section's records stand in it.
+pub struct Place {
+    pub refusal: u32,
+    pub start: usize,
+    pub len: usize,
+}

@@ -3,14 +3,16 @@ pub mod answer;
 pub mod check;
 
 use crate::answer::Measure;
+use crate::answer::Place;
 use crate::check::check;
 use crate::check::number_for;
 use limits::illegal_total;
 use limits::words_needed;
 use reader::section_bytes;
+use reader::section_part;
 ghost use mathlib.Core.Path.{_≡_};
 ghost use Rattle.model.specs.Register as Model;
-ghost use Rattle.table.specs.Check.{measureOf};
+ghost use Rattle.table.specs.Check.{measureOf, SectionAt};
 
 pub fn measure(table: &[u8]) -> Measure
     ensures { λ r. ⌜ r ≡ measureOf (now (table .entry)) ⌝ }
@@ -43,4 +45,28 @@ pub fn section(table: &[u8], number: u32) -> &[u8]
         return &table[0..0];
     }
     section_bytes(table, number)
+}
+
+// The same as numbers: the table's refusal, and the start and length of the part.
+pub fn section_place(table: &[u8], number: u32) -> Place
+    ensures { λ r. ⌜ SectionAt (now (table .entry)) number r ⌝ }
+{
+    let v = check(table);
+    let class = v.class;
+    if class != 0 {
+        let refusal = number_for(class);
+        return Place {
+            refusal: refusal,
+            start: 0,
+            len: 0,
+        };
+    }
+    let p = section_part(table, number);
+    let from = p.from;
+    let to = p.to;
+    Place {
+        refusal: 0,
+        start: from,
+        len: to - from,
+    }
 }
