@@ -20,6 +20,7 @@ use Rattle.model.proofs.Booleans.{false-true, or-false-right}
 use Rattle.model.proofs.RawLaws.{length-rows, getD-rows}
 use Rattle.words.specs.Verdicts.{verdict, verdictOf, verdictIn, unlessOk}
 use Rattle.words.specs.declared.verdicts.Verdict.{Verdict}
+use Rattle.model.proofs.Fields.{cover-kind}
 use Rattle.words.proofs.Laws.{verdict-record, none-left, one-left}
 use Rattle.ranges.specs.Types.{typed}
 use Rattle.check_crosses.specs.Crosses.{CrossOk, valueFields, found, wantedAfter, lacks}
@@ -78,12 +79,6 @@ point-below s np c i r h e = let y = point-known s np c i h in omega arith
 
 -- ---- a value bin by its number
 
-is-cover : (k : ℕ) → isCover (kindFrom k) ≡ eqb k 0
-is-cover zero = refl
-is-cover (suc zero) = refl
-is-cover (suc (suc zero)) = refl
-is-cover (suc (suc (suc k))) = sym (eqb·suc-zero (suc (suc k)))
-
 pub cover-bin : (s : List ℕ) (bins nb p b : ℕ)
     → coverBinOf (rows (binHead s) 8 bins nb) p b ≡ (ltb b nb && eqb (byte s (bins + 8 * b + 1)) 0 && eqb (byte s (bins + 8 * b)) p)
 unfolding coverBinOf
@@ -96,7 +91,7 @@ cover-bin s bins nb p b =
         ≡ (l && eqb (byte s (bins + 8 * b + 1)) 0 && eqb (byte s (bins + 8 * b)) p)
     go true e =
         ap (λ (h : BinHead). isCover (h .bin .kind) && eqb (h .bin .point) p) (getD-rows (binHead s) 8 bins nb b noBinHead (ltb-true b nb e))
-        ∙ ap (λ (x : Bool). x && eqb (byte s (bins + 8 * b)) p) (is-cover (byte s (bins + 8 * b + 1)))
+        ∙ ap (λ (x : Bool). x && eqb (byte s (bins + 8 * b)) p) (cover-kind (byte s (bins + 8 * b + 1)))
     go false e = refl
 
 -- ---- a token's tests

@@ -1,4 +1,4 @@
-pub mod Extra
+pub mod Bounds
 pub mod BinLaws
 pub mod RangeLaws
 pub mod Sound

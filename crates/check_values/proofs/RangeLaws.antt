@@ -17,7 +17,7 @@ use Rattle.words.proofs.Laws.{verdict-done, eachs}
 use Rattle.words.proofs.Chain.{times-in}
 use Rattle.ranges.specs.Types.{AllWide}
 use Rattle.check_values.specs.Places.{Typed, AllKnown}
-use Rattle.check_values.proofs.Extra.{cover-kind, single-form}
+use Rattle.model.proofs.Fields.{cover-kind, single-form}
 
 verdict-bin-ranges : (s : List ℕ) (ps : List Point) (h : BinHead) (at : ℕ)
     → verdictOf (readBinRanges s ps h at) ≡ verdictOf (times (h .ranges) (readRange s (getD ps (h .bin .point) noPoint) (allowsPatterns (h .bin))) at)

@@ -13,7 +13,7 @@ use Rattle.model.proofs.Readers.{then-elim, bind-elim, got-record}
 use Rattle.model.proofs.Access.{section-count, owned-count, records}
 use Rattle.ranges.specs.Types.{Wide, AllWide}
 use Rattle.check_values.specs.Places.{AllKnown}
-use Rattle.check_values.proofs.Extra.{within-wide}
+use Rattle.check_values.proofs.Bounds.{within-wide}
 
 -- ---- points
 

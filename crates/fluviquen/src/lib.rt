@@ -20,7 +20,12 @@ pub extern "C" fn fluviquen_measure(table: &[u8], words: &mut u32, illegal_place
 
 // The table's refusal number; where the records of section 1 to 10 stand in it. Length 0 if it is refused, or for another number.
 #[no_mangle]
-pub extern "C" fn fluviquen_section(table: &[u8], number: u32, start: &mut usize, len: &mut usize) -> u32
+pub extern "C" fn fluviquen_section(
+    table: &[u8],
+    number: u32,
+    start: &mut usize,
+    len: &mut usize,
+) -> u32
     ensures { λ r. ⌜ r ≡ Model.measure (now (table .entry)) .number ⌝ }
     ensures { λ _. ⌜ now (start .exit) ≡ sectionStart (now (table .entry)) number ⌝ }
     ensures { λ _. ⌜ take (now (len .exit)) (drop (now (start .exit)) (now (table .entry))) ≡ Model.section (now (table .entry)) number ⌝ }

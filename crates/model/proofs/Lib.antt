@@ -1,5 +1,6 @@
 -- small laws, and readers
 pub mod Booleans
+pub mod Fields
 pub mod Readers
 pub mod Searches
 -- the table's bytes: where the sections stand, and what a table that was read is

@@ -17,6 +17,7 @@ use Rattle.model.specs.Register.{illegalTotal, Sequence, binSequences, s
 use Rattle.model.specs.Sampling.{runLength}
 use Rattle.model.proofs.Booleans.{and-left}
 use Rattle.model.proofs.Readers.{All, all-at}
+use Rattle.model.proofs.RawLaws.{sum-append}
 use Rattle.model.proofs.WellFormed.{WellFormed, InPoints}
 use Rattle.model.proofs.Limits.{products-count, all-from, counters-exact, same-product, limits-exact}
 
@@ -31,11 +32,6 @@ pub sum-zero : {A : Type 0} (xs : List A) → sumOf (λ x. 0) xs ≡ 0
 unfolding sumOf
 sum-zero [] = refl
 sum-zero (x ∷ xs) = omega (arith, sum-zero xs)
-
-pub sum-append : {A : Type 0} (f : A → ℕ) (xs ys : List A) → sumOf f (xs ++ ys) ≡ sumOf f xs + sumOf f ys
-unfolding sumOf
-sum-append f [] ys = omega arith
-sum-append f (x ∷ xs) ys = omega (arith, sum-append f xs ys)
 
 sum-shift : (f : ℕ → ℕ) (i n : ℕ) → sumOf f (upFrom (suc i) n) ≡ sumOf (λ j. f (suc j)) (upFrom i n)
 unfolding sumOf upFrom

@@ -1,0 +1,10 @@
+-- laws of lists, of `put`, and of words together
+pub mod Extra
+-- the code's words are the model's
+pub mod NextSteps
+-- what a turn of each loop does
+pub mod Turns
+-- for a loop over all sequences: what one sequence does to the register's run words
+pub mod Sequences
+-- the same over the places of the table's bytes
+pub mod Places

@@ -1,0 +1,203 @@
+-- The run words of all sequences, one sequence after the other: laws for a loop that advances each in the register w and looks at what matches.
+-- The loop's place a is where the words of the sequences that are left begin.
+-- Assumes nothing.
+use mathlib.Core.Path.{_≡_, refl, ap, ap₂, sym, _∙_}
+use mathlib.Core.Bool.{Bool, true, false}
+use mathlib.Core.List.{List, [], _∷_, _++_, map, append-assoc}
+use Prim.Native.Nat.{ℕ, _+_, _≤_, _<_}
+use native.Mathlib.Omega.{arith}
+use lib.Bits.{bitOr, or-zero-r}
+use lib.ListN.{length, take, drop, set, length-append, length-take, length-drop, length-map}
+use lib.Seq.{drop-drop, take-at, drop-at, take-append-le, drop-append-le, length-take-le}
+use Rattle.model.specs.Lists.{sumOf}
+use Rattle.model.specs.Table.{Step, TransitionBin, Table}
+use Rattle.model.specs.Sampling.{Reading, skipped, unknown, known, isSkipped, inStep, reading, runLength, nextSteps, nextRun, matchedLengths}
+use Rattle.model.specs.Register.{Sequence, binSequences, nextRuns, binLengths, allLengths}
+use Rattle.sequences.specs.declared.Steps.{Steps}
+use Rattle.sequences.specs.Described.{Shaped, Describes}
+use Rattle.sequences.specs.Words.{put}
+use Rattle.sequences.proofs.Extra.{put-nil, put-cons, put-next, drop-put, put-zero, put-same, or-assoc}
+use Rattle.sequences.proofs.NextSteps.{length-nextSteps}
+
+-- ---- arrays that were filled
+
+front : {A : Type 0} (xs l : List A) (n : ℕ) → n ≡ length xs → take n (put 0 xs l) ≡ xs
+front xs l n e = ap (take n) (put-zero xs l) ∙ take-at xs (drop (length xs) l) n (sym e)
+
+pub shaped-filled : (steps : Steps) (ss : List Step) (ls ms : List ℕ) → steps .count ≡ length ss
+    → steps .least ≡ put 0 (map (λ s. s .least) ss) ls → steps .most ≡ put 0 (map (λ s. s .most) ss) ms → Shaped steps ss
+shaped-filled steps ss ls ms e l m =
+    record {
+      counted = e;
+      leasts = ap (take (steps .count)) l ∙ front _ ls (steps .count) (e ∙ sym (length-map ss (λ s. s .least)));
+      mosts = ap (take (steps .count)) m ∙ front _ ms (steps .count) (e ∙ sym (length-map ss (λ s. s .most)));
+    }
+
+pub described-filled : (steps : Steps) (ss : List Step) (r : Reading) (bs : List Bool) → Shaped steps ss
+    → steps .inside ≡ put 0 (map (λ s. inStep s r) ss) bs → Describes steps ss r
+described-filled steps ss r bs h b =
+    record { shape = h; insides = ap (take (steps .count)) b ∙ front _ bs (steps .count) (h .counted ∙ sym (length-map ss (λ s. inStep s r))) }
+
+-- ---- one sequence's next run
+
+pub nextRun-read : (ss : List Step) (run : List ℕ) (r : Reading) → isSkipped r ≡ false → nextRun ss run r ≡ nextSteps ss run 1 r
+nextRun-read ss run skipped e = let z : true ≡ false = e in cc
+nextRun-read ss run unknown e = refl
+nextRun-read ss run (known v) e = refl
+
+pub nextRun-skipped : (ss : List Step) (run : List ℕ) (r : Reading) → isSkipped r ≡ true → nextRun ss run r ≡ run
+nextRun-skipped ss run skipped e = refl
+nextRun-skipped ss run unknown e = let z : false ≡ true = e in cc
+nextRun-skipped ss run (known v) e = let z : false ≡ true = e in cc
+
+pub length-nextRun : (ss : List Step) (run : List ℕ) (r : Reading) → length run ≡ runLength ss → length (nextRun ss run r) ≡ runLength ss
+length-nextRun ss run skipped e = e
+length-nextRun ss run unknown e = length-nextSteps ss run 1 unknown (omega arith)
+length-nextRun ss run (known v) e = length-nextSteps ss run 1 (known v) (omega arith)
+
+-- a sequence's own words in w
+own-length : (w : List ℕ) (a n : ℕ) → a + n ≤ length w → length (take n (drop a w)) ≡ n
+own-length w a n h = simp (length-take, length-drop) (omega arith)
+
+-- what `advance` wrote is the next run
+pub advance-run : (ss : List Step) (r : Reading) (a : ℕ) (w w′ : List ℕ) → a + runLength ss ≤ length w → isSkipped r ≡ false
+    → w′ ≡ take a w ++ nextSteps ss (take (runLength ss) (drop a w)) 1 r ++ drop (a + runLength ss) w
+    → w′ ≡ put a (nextRun ss (take (runLength ss) (drop a w)) r) w
+unfolding put
+advance-run ss r a w w′ h k e =
+    let own = take (runLength ss) (drop a w) in
+    let n : length own ≡ runLength ss = own-length w a (runLength ss) h in
+    let l : length (nextSteps ss own 1 r) ≡ runLength ss = length-nextSteps ss own 1 r (omega arith) in
+    e ∙ ap (λ (x : ℕ). take a w ++ nextSteps ss own 1 r ++ drop (a + x) w) (sym l) ∙ ap (λ (xs : List ℕ). put a xs w) (sym (nextRun-read ss own r k))
+
+-- and where the reading is skipped there is nothing to write
+pub skip-run : (ss : List Step) (r : Reading) (a : ℕ) (w : List ℕ) → a + runLength ss ≤ length w → isSkipped r ≡ true
+    → w ≡ put a (nextRun ss (take (runLength ss) (drop a w)) r) w
+skip-run ss r a w h k =
+    sym (ap (λ (xs : List ℕ). put a xs w) (nextRun-skipped ss (take (runLength ss) (drop a w)) r k) ∙ put-same a (runLength ss) w h)
+
+-- ---- all sequences
+
+-- the run words of some sequences
+abbrev pub total : List Sequence → ℕ
+total qs = sumOf (λ q. runLength (q .steps)) qs
+
+module _ (t : Table) (s : List ℕ) where
+  -- one sequence is written, and those that are left follow it
+  pub runs-turn : (q : Sequence) (qs : List Sequence) (a : ℕ) (w w′ : List ℕ) → a + runLength (q .steps) ≤ length w
+      → w′ ≡ put a (nextRun (q .steps) (take (runLength (q .steps)) (drop a w)) (reading t s (q .point))) w
+      → put (a + runLength (q .steps)) (nextRuns t s qs (drop (a + runLength (q .steps)) w′)) w′ ≡ put a (nextRuns t s (q ∷ qs) (drop a w)) w
+  unfolding nextRuns
+  runs-turn q qs a w w′ h e =
+      let n = runLength (q .steps) in
+      let xs = nextRun (q .steps) (take n (drop a w)) (reading t s (q .point)) in
+      let l : length xs ≡ n = length-nextRun (q .steps) (take n (drop a w)) (reading t s (q .point)) (own-length w a n h) in
+      let d : drop (a + n) w′ ≡ drop n (drop a w) = ap (drop (a + n)) e ∙ drop-put a n xs w l h ∙ sym (drop-drop n a w) in
+      rw (d, e) (put-next a n xs (nextRuns t s qs (drop n (drop a w))) w l h)
+
+  pub runs-end : (a : ℕ) (runs w : List ℕ) → put a (nextRuns t s [] runs) w ≡ w
+  unfolding nextRuns
+  runs-end a runs w = put-nil a w
+
+  pub length-nextRuns : (qs : List Sequence) (runs : List ℕ) → total qs ≤ length runs → length (nextRuns t s qs runs) ≡ total qs
+  unfolding nextRuns sumOf
+  length-nextRuns [] runs h = refl
+  length-nextRuns (q ∷ qs) runs h =
+      let n = runLength (q .steps) in
+      let xs = nextRun (q .steps) (take n runs) (reading t s (q .point)) in
+      let k : total qs ≤ length (drop n runs) = simp length-drop (omega arith) in
+      length-append xs (nextRuns t s qs (drop n runs))
+      ∙ ap₂ _+_ (length-nextRun (q .steps) (take n runs) (reading t s (q .point)) (length-take-le n runs (omega arith))) (length-nextRuns qs (drop n runs) k)
+
+  -- the sequences of one bin, and then those of the others
+  pub nextRuns-append : (qs qs′ : List Sequence) (runs : List ℕ) → nextRuns t s (qs ++ qs′) runs ≡ nextRuns t s qs runs ++ nextRuns t s qs′ (drop (total qs) runs)
+  unfolding nextRuns sumOf
+  nextRuns-append [] qs′ runs = refl
+  nextRuns-append (q ∷ qs) qs′ runs =
+      let n = runLength (q .steps) in
+      let xs = nextRun (q .steps) (take n runs) (reading t s (q .point)) in
+      ap (xs ++_) (nextRuns-append qs qs′ (drop n runs) ∙ ap (λ (l : List ℕ). nextRuns t s qs (drop n runs) ++ nextRuns t s qs′ l) (drop-drop (total qs) n runs))
+      ∙ sym (append-assoc xs (nextRuns t s qs (drop n runs)) (nextRuns t s qs′ (drop (n + total qs) runs)))
+
+pub total-bin : (p : ℕ) (sss : List (List Step)) → total (map (λ ss. record { point = p; steps = ss }) sss) ≡ sumOf runLength sss
+unfolding sumOf
+total-bin p [] = refl
+total-bin p (ss ∷ sss) = ap (runLength ss +_) (total-bin p sss)
+
+-- ---- what matches
+
+-- one sequence of a bin is looked at, and those that are left follow it
+pub lengths-turn : (ss : List Step) (sss : List (List Step)) (a out : ℕ) (w : List ℕ)
+    → bitOr (bitOr out (matchedLengths ss (take (runLength ss) (drop a w)))) (binLengths sss (drop (a + runLength ss) w))
+    ≡ bitOr out (binLengths (ss ∷ sss) (drop a w))
+unfolding binLengths
+lengths-turn ss sss a out w =
+    or-assoc out (matchedLengths ss (take (runLength ss) (drop a w))) (binLengths sss (drop (a + runLength ss) w))
+    ∙ ap (λ (l : List ℕ). bitOr out (bitOr (matchedLengths ss (take (runLength ss) (drop a w))) (binLengths sss l))) (sym (drop-drop (runLength ss) a w))
+
+pub lengths-end : (out : ℕ) (runs : List ℕ) → bitOr out (binLengths [] runs) ≡ out
+unfolding binLengths
+lengths-end out runs = or-zero-r out
+
+-- one bin's word is stored at k, and those of the bins that are left follow it
+pub bins-turn : (b : TransitionBin) (bs : List TransitionBin) (a k : ℕ) (w lens : List ℕ) → k < length lens
+    → put (k + 1) (allLengths bs (drop (a + sumOf runLength (b .sequences)) w)) (set lens k (binLengths (b .sequences) (drop a w)))
+    ≡ put k (allLengths (b ∷ bs) (drop a w)) lens
+unfolding allLengths
+bins-turn b bs a k w lens h =
+    put-cons k (binLengths (b .sequences) (drop a w)) (allLengths bs (drop (a + sumOf runLength (b .sequences)) w)) lens h
+    ∙ ap (λ (l : List ℕ). put k (binLengths (b .sequences) (drop a w) ∷ allLengths bs l) lens) (sym (drop-drop (sumOf runLength (b .sequences)) a w))
+
+pub bins-end : (k : ℕ) (runs lens : List ℕ) → put k (allLengths [] runs) lens ≡ lens
+unfolding allLengths
+bins-end k runs lens = put-nil k lens
+
+-- words after the bin's own count for nothing
+pub binLengths-front : (sss : List (List Step)) (xs ys : List ℕ) → sumOf runLength sss ≤ length xs → binLengths sss (xs ++ ys) ≡ binLengths sss xs
+unfolding binLengths sumOf
+binLengths-front [] xs ys h = refl
+binLengths-front (ss ∷ sss) xs ys h =
+    let n = runLength ss in
+    let h₁ : n ≤ length xs = omega arith in
+    let k : sumOf runLength sss ≤ length (drop n xs) = simp length-drop (omega arith) in
+    ap₂ bitOr
+    (ap (matchedLengths ss) (take-append-le n xs ys h₁))
+    (ap (binLengths sss) (drop-append-le n xs ys h₁) ∙ binLengths-front sss (drop n xs) ys k)
+
+pub allLengths-front : (bs : List TransitionBin) (xs ys : List ℕ) → sumOf (λ b. sumOf runLength (b .sequences)) bs ≤ length xs → allLengths bs (xs ++ ys) ≡ allLengths bs xs
+unfolding allLengths sumOf
+allLengths-front [] xs ys h = refl
+allLengths-front (b ∷ bs) xs ys h =
+    let n = sumOf runLength (b .sequences) in
+    let h₁ : n ≤ length xs = omega arith in
+    let k : sumOf (λ b. sumOf runLength (b .sequences)) bs ≤ length (drop n xs) = simp length-drop (omega arith) in
+    ap₂ _∷_
+    (binLengths-front (b .sequences) xs ys h₁)
+    (ap (allLengths bs) (drop-append-le n xs ys h₁) ∙ allLengths-front bs (drop n xs) ys k)
+
+-- ---- what matches after the sample, with nothing written yet
+
+module _ (t : Table) (s : List ℕ) where
+  pub lengths-next : (p : ℕ) (ss : List Step) (sss : List (List Step)) (qs : List Sequence) (runs : List ℕ) → runLength ss ≤ length runs
+      → binLengths (ss ∷ sss) (nextRuns t s (record { point = p; steps = ss } ∷ qs) runs)
+      ≡ bitOr (matchedLengths ss (nextRun ss (take (runLength ss) runs) (reading t s p))) (binLengths sss (nextRuns t s qs (drop (runLength ss) runs)))
+  unfolding binLengths nextRuns
+  lengths-next p ss sss qs runs h =
+      let n = runLength ss in
+      let xs = nextRun ss (take n runs) (reading t s p) in
+      let rest = nextRuns t s qs (drop n runs) in
+      let l : length xs ≡ n = length-nextRun ss (take n runs) (reading t s p) (length-take-le n runs h) in
+      ap₂ (λ (x y : List ℕ). bitOr (matchedLengths ss x) (binLengths sss y)) (take-at xs rest n l) (drop-at xs rest n l)
+
+  pub bins-next : (b : TransitionBin) (bs : List TransitionBin) (qs : List Sequence) (runs : List ℕ) → sumOf runLength (b .sequences) ≤ length runs
+      → allLengths (b ∷ bs) (nextRuns t s (binSequences b ++ qs) runs)
+      ≡ binLengths (b .sequences) (nextRuns t s (binSequences b) runs) ∷ allLengths bs (nextRuns t s qs (drop (sumOf runLength (b .sequences)) runs))
+  unfolding allLengths
+  bins-next b bs qs runs h =
+      let n = sumOf runLength (b .sequences) in
+      let e : total (binSequences b) ≡ n = total-bin (b .point) (b .sequences) in
+      let xs = nextRuns t s (binSequences b) runs in
+      let rest = nextRuns t s qs (drop n runs) in
+      let l : length xs ≡ n = length-nextRuns t s (binSequences b) runs (omega arith) ∙ e in
+      ap (allLengths (b ∷ bs)) (nextRuns-append t s (binSequences b) qs runs ∙ ap (λ (k : ℕ). xs ++ nextRuns t s qs (drop k runs)) e)
+      ∙ ap₂ (λ (x : ℕ) (y : List ℕ). x ∷ allLengths bs y) (binLengths-front (b .sequences) xs rest (omega arith)) (drop-at xs rest n l)

@@ -1,0 +1,106 @@
+-- What a turn of each loop does, and its end: what is left to do, done to the present words, gives the whole.
+-- Assumes nothing.
+use mathlib.Core.Path.{_≡_, ap, _∙_}
+use mathlib.Core.Bool.{Bool, false, cond}
+use mathlib.Core.List.{List, [], _∷_}
+use Prim.Native.Nat.{ℕ, _+_, _-_, _≤_, _<_}
+use native.Mathlib.Omega.{arith}
+use lib.Bits.{bitOr, or-zero-r}
+use lib.ListN.{length, take, drop, getD, set, length-take, length-drop, drop-of-length-le}
+use lib.Seq.{getD-take, getD-drop, drop-drop}
+use Rattle.model.specs.Lists.{orAll}
+use Rattle.model.specs.Sampling.{longer}
+use Rattle.sequences.specs.Described.{sumFirst}
+use Rattle.sequences.specs.Words.{put, stepWords, completeFrom, stepsWords}
+use Rattle.sequences.proofs.Extra.{head-tail, left-suc, put-nil, put-cons, put-next, orAll-turn}
+use Rattle.sequences.proofs.NextSteps.{length-stepWords}
+
+-- ---- complete
+
+-- `most` words from `at` on
+part-length : (ws : List ℕ) (at most : ℕ) → at + most ≤ length ws → length (take most (drop at ws)) ≡ most
+part-length ws at most h = simp (length-take, length-drop) (omega arith)
+
+pub complete-turn : (ws : List ℕ) (at most out j : ℕ) → at + most ≤ length ws → j < most
+    → bitOr (bitOr out (getD ws (at + j) 0)) (orAll (drop (j + 1) (take most (drop at ws)))) ≡ bitOr out (orAll (drop j (take most (drop at ws))))
+complete-turn ws at most out j h k =
+    let n = part-length ws at most h in
+    let e : getD (take most (drop at ws)) j 0 ≡ getD ws (at + j) 0 = getD-take most (drop at ws) j 0 k ∙ getD-drop at ws j 0 in
+    rw (← e) (orAll-turn (take most (drop at ws)) out j (omega arith))
+
+pub complete-end : (ws : List ℕ) (at most out j : ℕ) → at + most ≤ length ws → most ≤ j → bitOr out (orAll (drop j (take most (drop at ws)))) ≡ out
+unfolding orAll
+complete-end ws at most out j h k =
+    let n = part-length ws at most h in
+    let z : drop j (take most (drop at ws)) ≡ [] = drop-of-length-le (take most (drop at ws)) (let g : length (take most (drop at ws)) ≤ j = omega arith in g) in
+    rw z (or-zero-r out)
+
+-- ---- step_words
+
+-- the step's words that are left: the first, and the rest
+left-words : (old : List ℕ) (at most j : ℕ) → j < most → at + j < length old
+    → take (most - j) (drop (at + j) old) ≡ getD old (at + j) 0 ∷ take (most - (j + 1)) (drop (at + (j + 1)) old)
+left-words old at most j h k =
+    let e : at + (j + 1) ≡ (at + j) + 1 = omega arith in
+    rw (e, left-suc most j h, head-tail old (at + j) 0 k)
+
+pub words-turn : (old words : List ℕ) (at most j next v : ℕ) (b : Bool) → j < most → at + j < length old → at + j < length words → v ≡ cond b next 0
+    → put (at + (j + 1)) (stepWords b (longer (getD old (at + j) 0)) (take (most - (j + 1)) (drop (at + (j + 1)) old))) (set words (at + j) v)
+    ≡ put (at + j) (stepWords b next (take (most - j) (drop (at + j) old))) words
+unfolding stepWords
+words-turn old words at most j next v b h k l ev =
+    let e : at + (j + 1) ≡ (at + j) + 1 = omega arith in
+    let rest = stepWords b (longer (getD old (at + j) 0)) (take (most - (j + 1)) (drop (at + (j + 1)) old)) in
+    rw (left-words old at most j h k, ← ev)
+    (ap (λ (n : ℕ). put n rest (set words (at + j) v)) e ∙ put-cons (at + j) v rest words l)
+
+pub words-end : (old words : List ℕ) (at most j next : ℕ) (b : Bool) → most ≤ j
+    → put (at + j) (stepWords b next (take (most - j) (drop (at + j) old))) words ≡ words
+unfolding stepWords
+words-end old words at most j next b h =
+    let z : most - j ≡ 0 = omega arith in
+    rw z (put-nil (at + j) words)
+
+-- ---- run_length
+
+pub sum-turn : (n s : ℕ) (ms : List ℕ) → s < n → s < length ms → sumFirst (n - s) (drop s ms) ≡ getD ms s 0 + sumFirst (n - (s + 1)) (drop (s + 1) ms)
+unfolding sumFirst
+sum-turn n s ms h k = rw (left-suc n s h, head-tail ms s 0 k)
+
+pub sum-end : (n s : ℕ) (ms : List ℕ) → n ≤ s → sumFirst (n - s) (drop s ms) ≡ 0
+unfolding sumFirst
+sum-end n s ms h =
+    let z : n - s ≡ 0 = omega arith in
+    rw z
+
+-- ---- next
+
+pub steps-turn : (n s at enter enter′ : ℕ) (ls ms : List ℕ) (bs : List Bool) (old words words′ : List ℕ)
+    → s < n → s < length ls → s < length ms → s < length bs → at + getD ms s 0 ≤ length old → length words ≡ length old
+    → words′ ≡ put at (stepWords (getD bs s false) enter (take (getD ms s 0) (drop at old))) words
+    → enter′ ≡ longer (completeFrom (getD ls s 0) (take (getD ms s 0) (drop at old)))
+    → put (at + getD ms s 0) (stepsWords (n - (s + 1)) (drop (s + 1) ls) (drop (s + 1) ms) (drop (s + 1) bs) enter′ (drop (at + getD ms s 0) old)) words′
+    ≡ put at (stepsWords (n - s) (drop s ls) (drop s ms) (drop s bs) enter (drop at old)) words
+unfolding stepsWords
+steps-turn n s at enter enter′ ls ms bs old words words′ h hl hm hb ho hw e₁ e₂ =
+    let m = getD ms s 0 in
+    let xs = stepWords (getD bs s false) enter (take m (drop at old)) in
+    let len : length xs ≡ m = length-stepWords _ _ _ ∙ part-length old at m ho in
+    rw (left-suc n s h, head-tail ls s 0 hl, head-tail ms s 0 hm, head-tail bs s false hb, e₁, e₂, ← drop-drop m at old)
+    (put-next at m xs _ words len (omega arith))
+
+pub steps-end : (n s at enter : ℕ) (ls ms : List ℕ) (bs : List Bool) (ws words : List ℕ) → n ≤ s → put at (stepsWords (n - s) ls ms bs enter ws) words ≡ words
+unfolding stepsWords
+steps-end n s at enter ls ms bs ws words h =
+    let z : n - s ≡ 0 = omega arith in
+    rw z (put-nil at words)
+
+-- ---- load and store
+
+pub copy-turn : (xs ws : List ℕ) (i : ℕ) → i < length xs → i < length ws → put (i + 1) (drop (i + 1) xs) (set ws i (getD xs i 0)) ≡ put i (drop i xs) ws
+copy-turn xs ws i h k = rw (head-tail xs i 0 h) (put-cons i (getD xs i 0) (drop (i + 1) xs) ws k)
+
+pub copy-end : (xs ws : List ℕ) (i : ℕ) → length xs ≤ i → put i (drop i xs) ws ≡ ws
+copy-end xs ws i h =
+    let z : drop i xs ≡ [] = drop-of-length-le xs h in
+    rw z (put-nil i ws)

@@ -1,0 +1,35 @@
+-- Run words, step by step, as the code goes through them: for the contracts of inner functions.
+-- proofs/NextSteps.antt shows that this is the model's `nextSteps`.
+-- Assumes nothing.
+use Prim.Native.Nat.{ℕ, zero, suc, _+_, _-_}
+use mathlib.Core.Bool.{Bool, cond}
+use mathlib.Core.List.{List, [], _∷_, _++_}
+use lib.ListN.{length, take, drop, replicate}
+use Rattle.model.specs.Lists.{orAll}
+use Rattle.model.specs.Sampling.{longer}
+
+-- l with xs at n, n + 1, ..
+unfoldable pub put : {A : Type 0} → ℕ → List A → List A → List A
+put n xs l = take n l ++ xs ++ drop (n + length xs) l
+
+-- a step's next words: `enter` at the first, and each word one place on and one reading longer; all 0 if the reading is not in the step
+unfoldable pub stepWords : Bool → ℕ → List ℕ → List ℕ
+stepWords b enter [] = []
+stepWords b enter (w ∷ ws) = cond b enter 0 ∷ stepWords b (longer w) ws
+
+-- of a step's words, those of `least` or more readings together
+abbrev pub completeFrom : ℕ → List ℕ → ℕ
+completeFrom least ws = orAll (drop (least - 1) ws)
+
+-- the next words of n steps, by their leasts, their mosts, and whether the reading is in each
+unfoldable pub stepsWords : ℕ → List ℕ → List ℕ → List Bool → ℕ → List ℕ → List ℕ
+stepsWords zero ls ms bs enter ws = []
+stepsWords (suc n) [] ms bs enter ws = []
+stepsWords (suc n) (l ∷ ls) [] bs enter ws = []
+stepsWords (suc n) (l ∷ ls) (m ∷ ms) [] enter ws = []
+stepsWords (suc n) (l ∷ ls) (m ∷ ms) (b ∷ bs) enter ws =
+    stepWords b enter (take m ws) ++ stepsWords n ls ms bs (longer (completeFrom l (take m ws))) (drop m ws)
+
+-- 32 words: those of xs, and 0 after them
+abbrev pub padded : List ℕ → List ℕ
+padded xs = xs ++ replicate (32 - length xs) 0

@@ -1,0 +1,186 @@
+// What a sample does to the run words of one sequence.
+ghost use mathlib.Core.Path.{_≡_};
+ghost use mathlib.Core.Bool.{cond};
+ghost use mathlib.Core.List.{List, _++_};
+ghost use Prim.Native.Nat.{_+_, _-_, _≤_};
+ghost use lib.ListN.{length, take, drop, replicate};
+ghost use Rattle.model.specs.Table.{Step};
+ghost use Rattle.model.specs.Sampling.{Reading, runLength, nextSteps, matchedLengths};
+ghost use Rattle.sequences.specs.Described.{wordsOf, Fits, Shaped, Describes};
+ghost use Rattle.sequences.specs.Words.{put, stepWords, completeFrom, padded};
+
+// The run words of a sequence come first, one for each unit of its steps' mosts. The words after them are free.
+pub struct Run {
+    pub words: [u32; 32],
+}
+
+// The steps of a sequence, from the first on: how many readings in a row each takes, and whether the sample's reading lies in it.
+pub struct Steps {
+    pub count: usize,
+    pub least: [u8; 16],
+    pub most: [u8; 16],
+    pub inside: [bool; 16],
+}
+
+// n - 1, and 0 for 0.
+fn less_one(n: usize) -> usize
+    ensures { λ r. ⌜ r ≡ n - 1 ⌝ }
+{
+    if n == 0 { 0 } else { n - 1 }
+}
+
+fn gated(b: bool, w: u32) -> u32
+    ensures { λ r. ⌜ r ≡ cond b w 0 ⌝ }
+{
+    if b { w } else { 0 }
+}
+
+// The lengths at which a step is complete: its words stand from `at` on, and those of `least` or more readings count.
+fn complete(words: &[u32], at: usize, least: usize, most: usize) -> u32
+    requires { ⌜ at + most ≤ length (now words) ⌝ }
+    ensures { λ r. ⌜ r ≡ completeFrom least (take most (drop at (now (words .entry)))) ⌝ }
+{
+    let mut out: u32 = 0;
+    let mut j = less_one(least);
+    while j < most {
+        let p = at + j;
+        out = out | words[p];
+        j += 1;
+    }
+    out
+}
+
+// The next words of a step, from `at` on. The first is `enter`, each other the old word before it, one reading longer.
+fn step_words(old: &[u32], words: &mut [u32], at: usize, most: usize, inside: bool, enter: u32)
+    requires { ⌜ (at + most ≤ length (now old)) × (at + most ≤ length (now words)) ⌝ }
+    ensures { λ _. ⌜ now (words .exit) ≡ put at (stepWords inside enter (take most (drop at (now (old .entry))))) (now (words .entry)) ⌝ }
+{
+    let mut next = enter;
+    let mut j = 0;
+    while j < most {
+        let p = at + j;
+        words[p] = gated(inside, next);
+        next = old[p] << 1;
+        j += 1;
+    }
+}
+
+impl Run {
+    // The run after the sample's reading. Length 1 enters the first step; what completes a step enters the next one. Free words become 0.
+    pub fn next(self, steps: Steps) -> Run
+        requires { ⌜ Fits steps ⌝ }
+        ensures { λ r. ⌜ ((ss : List Step) (reading : Reading) → Describes steps ss reading → r .words ≡ nextSteps ss (take (runLength ss) (self .words)) 1 reading ++ replicate (32 - runLength ss) 0) ⌝ }
+    {
+        let n = steps.count;
+        let least = steps.least;
+        let most = steps.most;
+        let inside = steps.inside;
+        let old = self.words;
+        let mut words = [0u32; 32];
+        let mut enter: u32 = 1;
+        let mut at = 0;
+        let mut s = 0;
+        while s < n {
+            let m = most[s] as usize;
+            let l = least[s] as usize;
+            step_words(&old, &mut words, at, m, inside[s], enter);
+            enter = complete(&old, at, l, m) << 1;
+            at += m;
+            s += 1;
+        }
+        Run { words }
+    }
+}
+
+// A sequence's words as a run.
+fn load(words: &[u32]) -> Run
+    requires { ⌜ length (now words) ≤ 32 ⌝ }
+    ensures { λ r. ⌜ r .words ≡ padded (now (words .entry)) ⌝ }
+{
+    let mut w = [0u32; 32];
+    let mut i = 0;
+    while i < words.len() {
+        w[i] = words[i];
+        i += 1;
+    }
+    Run { words: w }
+}
+
+// The run over a sequence's words.
+fn store(words: &mut [u32], run: Run)
+    requires { ⌜ length (now words) ≤ 32 ⌝ }
+    ensures { λ _. ⌜ now (words .exit) ≡ take (length (now (words .entry))) (run .words) ⌝ }
+{
+    let from = run.words;
+    let mut i = 0;
+    while i < words.len() {
+        words[i] = from[i];
+        i += 1;
+    }
+}
+
+// Writes a sequence's next run over its words, which are all that is lent.
+pub fn write_run(words: &mut [u32], steps: Steps)
+    requires { ⌜ Fits steps ⌝ }
+    requires { ⌜ length (now words) ≡ wordsOf steps ⌝ }
+    ensures { λ _. ⌜ ((ss : List Step) (reading : Reading) → Describes steps ss reading → now (words .exit) ≡ nextSteps ss (now (words .entry)) 1 reading) ⌝ }
+{
+    let run = load(words);
+    store(words, run.next(steps));
+}
+
+// The lengths at which the whole sequence matches, by its words: those at which its last step is complete.
+pub fn matched_lengths(words: &[u32], steps: Steps) -> u32
+    requires { ⌜ Fits steps ⌝ }
+    requires { ⌜ length (now words) ≡ wordsOf steps ⌝ }
+    ensures { λ r. ⌜ ((ss : List Step) → Shaped steps ss → r ≡ matchedLengths ss (now (words .entry))) ⌝ }
+{
+    let n = steps.count;
+    if n == 0 {
+        return 0;
+    }
+    let i = n - 1;
+    let least = steps.least;
+    let most = steps.most;
+    let l = least[i] as usize;
+    let m = most[i] as usize;
+    complete(words, words.len() - m, l, m)
+}
+
+// How many run words the steps have.
+pub fn run_length(steps: Steps) -> usize
+    requires { ⌜ Fits steps ⌝ }
+    ensures { λ r. ⌜ r ≡ wordsOf steps ⌝ }
+{
+    let n = steps.count;
+    let most = steps.most;
+    let mut total: usize = 0;
+    let mut s = 0;
+    while s < n {
+        total += most[s] as usize;
+        s += 1;
+    }
+    total
+}
+
+// Writes a sequence's next run in the register, where its words stand from `a` on. Answers where they end.
+pub fn advance(register: &mut [u32], a: usize, steps: Steps) -> usize
+    requires { ⌜ Fits steps ⌝ }
+    requires { ⌜ a + wordsOf steps ≤ length (now register) ⌝ }
+    ensures { λ r. ⌜ r ≡ a + wordsOf steps ⌝ }
+    ensures { λ _. ⌜ ((ss : List Step) (reading : Reading) → Describes steps ss reading → now (register .exit) ≡ take a (now (register .entry)) ++ nextSteps ss (take (runLength ss) (drop a (now (register .entry)))) 1 reading ++ drop (a + runLength ss) (now (register .entry))) ⌝ }
+{
+    let e = a + run_length(steps);
+    write_run(&mut register[a..e], steps);
+    e
+}
+
+// The lengths at which a sequence matches, by its words in the register, which stand from `a` on.
+pub fn lengths_at(register: &[u32], a: usize, steps: Steps) -> u32
+    requires { ⌜ Fits steps ⌝ }
+    requires { ⌜ a + wordsOf steps ≤ length (now register) ⌝ }
+    ensures { λ r. ⌜ ((ss : List Step) → Shaped steps ss → r ≡ matchedLengths ss (take (runLength ss) (drop a (now (register .entry))))) ⌝ }
+{
+    let e = a + run_length(steps);
+    matched_lengths(&register[a..e], steps)
+}
