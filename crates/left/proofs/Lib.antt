@@ -1,0 +1,8 @@
+pub mod Extra
+pub mod NextLaws
+pub mod TakenLaws
+pub mod LeftLaws
+pub mod SpanLaws
+pub mod Pieces
+pub mod CutLaws
+pub mod PortionLaws

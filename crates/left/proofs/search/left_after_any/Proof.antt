@@ -1,0 +1,91 @@
+use Prim.Native.Nat.{_+_, _-_, _*_, _≤_}
+use mathlib.Core.Path.{_≡_, _∙_}
+use borrow.Author.Needs.{needs}
+use Rattle.model.specs.Lists.{any}
+use Rattle.model.specs.Raw.{binsAt}
+use Rattle.left.specs.Left.{takenBy, excludedAt, coversAt, leftAfter}
+use Rattle.left.proofs.Extra.{anys, bins-any-start, bins-any-on}
+use Rattle.left.proofs.TakenLaws.{any-taken}
+use Rattle.left.proofs.search.left_after_any.Statement.{statement}
+use Rattle.left.proofs.search.left_after_any.Tie as tie
+
+abbrev Inv-loop : tie.InvT-loop
+Inv-loop t cover k bins ranges n p lo hi b₀ r₀ i₀ b r i =
+    (i ≤ n) × (b ≤ bins + 8 * i) × (r ≤ ranges + 1114095 * i)
+    × (any (leftAfter (coversAt t cover k lo hi) (excludedAt t bins ranges n p) lo hi) (excludedAt t bins ranges n p) ≡ any (takenBy (leftAfter (coversAt t cover k lo hi) (excludedAt t bins ranges n p) lo hi) p) (binsAt t b r (n - i)))
+
+abbrev μ-loop : tie.MeasureT-loop
+μ-loop t cover k bins ranges n p lo hi b₀ r₀ i₀ b r i = n - i
+
+loop-holds : tie.Need-loop-holds Inv-loop μ-loop
+loop-holds c =
+    let a = c .before .args in
+    let s = a .t .now in
+    let f = leftAfter (coversAt s (a .cover) (a .k) (a .lo) (a .hi)) (excludedAt s (a .bins) (a .ranges) (a .n) (a .p)) (a .lo) (a .hi) in
+    (search needs, search needs, search needs, any-taken f (a .p) (binsAt s (a .bins) (a .ranges) (a .n)) ∙ bins-any-start (takenBy f (a .p)) s (a .bins) (a .ranges) (a .n))
+
+left-after-bin-requires : tie.Need-left-after-bin-requires Inv-loop μ-loop
+left-after-bin-requires c κs = search needs
+
+returns : tie.Need-returns Inv-loop μ-loop
+returns c = search anys
+
+add-read2 : tie.Need-add-read2 Inv-loop μ-loop
+add-read2 c = search needs
+
+read2-requires : tie.Need-read2-requires Inv-loop μ-loop
+read2-requires c κs = search needs
+
+add-b : tie.Need-add-b Inv-loop μ-loop
+add-b c = search needs
+
+cast-r : tie.Need-cast-r Inv-loop μ-loop
+cast-r c = search needs
+
+mul-r : tie.Need-mul-r Inv-loop μ-loop
+mul-r c = search needs
+
+add-r : tie.Need-add-r Inv-loop μ-loop
+add-r c = search needs
+
+add-i : tie.Need-add-i Inv-loop μ-loop
+add-i c = search needs
+
+loop-less : tie.Need-loop-less Inv-loop μ-loop
+loop-less c = search needs
+
+loop-again : tie.Need-loop-again Inv-loop μ-loop
+loop-again c =
+    let l = c .before .before .before .before .loop in
+    let a = c .before .before .before .before .before .before .args in
+    let s = a .t .now in
+    let f = leftAfter (coversAt s (a .cover) (a .k) (a .lo) (a .hi)) (excludedAt s (a .bins) (a .ranges) (a .n) (a .p)) (a .lo) (a .hi) in
+    let found = c .before .before .left-after-bin in (
+      search needs,
+      search needs,
+      search needs,
+      bins-any-on (takenBy f (a .p)) s (l .b) (l .r) (a .n) (l .i) _ (l .inv .3) (found .result) (c .read2 .result) (search needs) (found .ensures) (search needs) (c .read2 .ensures),
+    )
+
+returns-2 : tie.Need-returns-2 Inv-loop μ-loop
+returns-2 c = search anys
+
+pub left-after-any-spec : {M : Type 1} → statement M
+left-after-any-spec =
+    tie.close
+    (tie.spec
+    Inv-loop
+    μ-loop
+    loop-holds
+    left-after-bin-requires
+    returns
+    add-read2
+    read2-requires
+    add-b
+    cast-r
+    mul-r
+    add-r
+    add-i
+    loop-less
+    loop-again
+    returns-2)

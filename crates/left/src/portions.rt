@@ -1,0 +1,158 @@
+// The bins of a value bin that stands for several, and auto bins: whether a value of the j-th is left from lo to hi.
+use crate::cuts::left_cut_span;
+use crate::cuts::left_cuts;
+use crate::cuts::size_at;
+use crate::cuts::span_size;
+use crate::next::larger;
+use crate::next::next_in;
+use crate::search::left_value;
+ghost use mathlib.Core.Path.{_≡_};
+ghost use mathlib.Core.Bool.{true, cond};
+ghost use mathlib.Core.List.{[], _∷_};
+ghost use Prim.Native.Nat.{suc, _*_, _/_, _≤_, max};
+ghost use lib.Dec.{eqb};
+ghost use lib.ListN.{getD};
+ghost use Rattle.model.specs.Lists.{all};
+ghost use Rattle.model.specs.Table.{span};
+ghost use Rattle.model.specs.Ranges.{ascending, sizes, portionRanges};
+ghost use Rattle.model.specs.Raw.{rangesAt};
+ghost use Rattle.left.specs.Left.{excludedAt, leftIn, isSpan, Placed, nthOf};
+
+// ---- one bin per value
+
+// The j-th value from low up of the k ranges from cover on, counted from 0; 2^33 where there is none.
+pub fn nth_value(t: &[u8], cover: usize, k: usize, low: u64, j: usize) -> u64
+    requires { ⌜ (cover ≤ 1000000000) × (k ≤ 65535) × (low ≤ 8589934592) × (j ≤ 256) ⌝ }
+    ensures { λ r. ⌜ r ≡ nthOf (rangesAt (now (t .entry)) cover k) low j ⌝ }
+{
+    let mut x = low;
+    let mut i = 0;
+    while i < j {
+        let v = next_in(t, cover, k, x);
+        if v >= 8589934592 {
+            return 8589934592;
+        }
+        x = v + 1;
+        i += 1;
+    }
+    next_in(t, cover, k, x)
+}
+
+pub fn left_nth(
+    t: &[u8],
+    bins: usize,
+    ranges: usize,
+    n: usize,
+    p: u8,
+    cover: usize,
+    k: usize,
+    low: u64,
+    j: usize,
+    lo: u64,
+    hi: u64,
+) -> bool
+    requires { ⌜ Placed cover k bins ranges n lo hi × (low ≤ 8589934592) × (j ≤ 256) ⌝ }
+    ensures { λ r. ⌜ r ≡ leftIn (span (nthOf (rangesAt (now (t .entry)) cover k) low j) (nthOf (rangesAt (now (t .entry)) cover k) low j) ∷ []) (excludedAt (now (t .entry)) bins ranges n p) lo hi ⌝ }
+{
+    let v = nth_value(t, cover, k, low, j);
+    left_value(t, bins, ranges, n, p, v, lo, hi)
+}
+
+// ---- a fixed number of bins, and auto bins
+
+// How many values k ranges from cover on list, repeats kept. Spans only count.
+pub fn sizes_at(t: &[u8], cover: usize, k: usize) -> u64
+    requires { ⌜ (cover ≤ 1000000000) × (k ≤ 65535) × (sizes (rangesAt (now t) cover k) ≤ 17592186044416) ⌝ }
+    ensures { λ r. ⌜ r ≡ sizes (rangesAt (now (t .entry)) cover k) ⌝ }
+{
+    let mut sum: u64 = 0;
+    let mut at = cover;
+    let mut i = 0;
+    while i < k {
+        sum += size_at(t, at);
+        at += 17;
+        i += 1;
+    }
+    sum
+}
+
+fn product(a: u64, b: u64) -> u64
+    requires { ⌜ (a ≤ 65536) × (b ≤ 17592186044416) ⌝ }
+    ensures { λ r. ⌜ (r ≡ a * b) × (r ≤ 1152921504606846976) ⌝ }
+{
+    a * b
+}
+
+// How many of the values each of num bins gets.
+fn share(total: u64, num: u64) -> u64
+    requires { ⌜ (1 ≤ num) × (total ≤ 17592186044416) ⌝ }
+    ensures { λ r. ⌜ (r ≡ max 1 (total / num)) × (r ≤ 17592186044416) ⌝ }
+{
+    larger(1, total / num)
+}
+
+// The positions of the j-th of num bins: from the one up to the other.
+fn portion_from(total: u64, num: u64, j: u64) -> u64
+    requires { ⌜ (1 ≤ num) × (j ≤ 65535) × (total ≤ 17592186044416) ⌝ }
+    ensures { λ r. ⌜ (r ≡ j * max 1 (total / num)) × (r ≤ 1152921504606846976) ⌝ }
+{
+    product(j, share(total, num))
+}
+
+fn portion_to(total: u64, num: u64, j: u64) -> u64
+    requires { ⌜ (1 ≤ num) × (j ≤ 65535) × (total ≤ 17592186044416) ⌝ }
+    ensures { λ r. ⌜ (r ≡ cond (eqb (suc j) num) total (suc j * max 1 (total / num))) × (r ≤ 1152921504606846976) ⌝ }
+{
+    let next = j + 1;
+    if next == num {
+        return total;
+    }
+    product(next, share(total, num))
+}
+
+// Of num bins over the k ranges from cover on.
+pub fn left_portion(
+    t: &[u8],
+    bins: usize,
+    ranges: usize,
+    n: usize,
+    p: u8,
+    cover: usize,
+    k: usize,
+    num: u64,
+    j: u64,
+    lo: u64,
+    hi: u64,
+) -> bool
+    requires { ⌜ Placed cover k bins ranges n lo hi × (1 ≤ num) × (j ≤ 65535) ⌝ }
+    requires { ⌜ (all isSpan (excludedAt (now t) bins ranges n p) ≡ true) × (sizes (rangesAt (now t) cover k) ≤ 17592186044416) ⌝ }
+    ensures { λ r. ⌜ r ≡ leftIn (portionRanges num j (rangesAt (now (t .entry)) cover k)) (excludedAt (now (t .entry)) bins ranges n p) lo hi ⌝ }
+{
+    let total = sizes_at(t, cover, k);
+    let from = portion_from(total, num, j);
+    let to = portion_to(total, num, j);
+    left_cuts(t, bins, ranges, n, p, cover, k, from, to, lo, hi)
+}
+
+// Of num bins over the values from low to high.
+pub fn left_auto(
+    t: &[u8],
+    bins: usize,
+    ranges: usize,
+    n: usize,
+    p: u8,
+    low: u64,
+    high: u64,
+    num: u64,
+    j: u64,
+    lo: u64,
+    hi: u64,
+) -> bool
+    requires { ⌜ Placed 0 0 bins ranges n lo hi × (high ≤ 8589934592) × (1 ≤ num) × (j ≤ 65535) ⌝ }
+    ensures { λ r. ⌜ r ≡ leftIn (portionRanges num j (span low high ∷ [])) (excludedAt (now (t .entry)) bins ranges n p) lo hi ⌝ }
+{
+    let total = span_size(low, high);
+    let from = portion_from(total, num, j);
+    let to = portion_to(total, num, j);
+    left_cut_span(t, bins, ranges, n, p, low, high, from, to, lo, hi)
+}

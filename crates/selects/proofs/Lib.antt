@@ -1,0 +1,5 @@
+pub mod EvaluatorLaws
+pub mod Bridge
+pub mod Tuples
+pub mod Steps
+pub mod Accepted

@@ -1,0 +1,167 @@
+-- Tuple i is the one that the digits of i pick.
+-- Assumes nothing.
+use mathlib.Core.Path.{_≡_, refl, ap, ap₂, sym, _∙_}
+use mathlib.Core.List.{List, [], _∷_, _++_, map}
+use Prim.Native.Nat.{ℕ, zero, suc, _+_, _*_, _-_, _/_, _%_, _≤_, _<_}
+use native.Mathlib.Nat.{mul-assoc, div-add-mod', mod-lt, mod-eq-of-lt, div-eq-of-lt, div-lt-iff-lt-mul, mul-add-div-right, mul-add-mod-self-right}
+use native.Mathlib.Numerals.{add-one}
+use native.Mathlib.Omega.{arith}
+use lib.ListN.{length, getD, drop, length-append, length-map, List·getD-append}
+use lib.Seq.{getD-append-add, drop-cons}
+use Rattle.model.specs.Lists.{concatOf}
+use Rattle.model.specs.Table.{Table}
+use Rattle.model.specs.Counters.{CoverBin, noCoverBin, tuples, crossParts, products, productOf, productCount}
+use Rattle.selects.specs.Products.{many, turns, digits, pick}
+
+-- ---- digits
+
+pub some-left : (n m : ℕ) → 1 ≤ n * m → (1 ≤ n) × (1 ≤ m)
+some-left zero m h = absurd (let z : 1 ≤ 0 * m = h in omega arith)
+some-left (suc n) zero h = absurd (let z : 1 ≤ suc n * 0 = h in omega arith)
+some-left (suc n) (suc m) h = (omega arith, omega arith)
+
+turns-add : (ns : List ℕ) → 1 ≤ many ns → (q r : ℕ) → turns ns (q * many ns + r) ≡ q + turns ns r
+unfolding many turns
+turns-add [] h q r = omega arith
+turns-add (n ∷ ns) h q r =
+    let l = some-left n (many ns) h in
+    ap (λ (x : ℕ). turns ns (x + r) / n) (sym (mul-assoc q n (many ns)))
+    ∙ ap (λ (x : ℕ). x / n) (turns-add ns (l .1) (q * n) r)
+    ∙ mul-add-div-right (l .0) q (turns ns r)
+
+turns-small : (ns : List ℕ) (r : ℕ) → r < many ns → turns ns r ≡ 0
+unfolding many turns
+turns-small [] r h = omega arith
+turns-small (n ∷ ns) r h =
+    let l = some-left n (many ns) (omega arith) in
+    let small : r / many ns < n = div-lt-iff-lt-mul (l .1) .1 h in
+    ap (λ (x : ℕ). turns ns x / n) (sym (div-add-mod' r (many ns)))
+    ∙ ap (λ (x : ℕ). x / n) (turns-add ns (l .1) (r / many ns) (r % many ns))
+    ∙ ap (λ (x : ℕ). (r / many ns + x) / n) (turns-small ns (r % many ns) (mod-lt r (l .1)))
+    ∙ div-eq-of-lt (let z : r / many ns + 0 < n = omega arith in z)
+
+-- the turns of all parts leave the digits
+digits-add : (ns : List ℕ) → 1 ≤ many ns → (q r : ℕ) → digits ns (q * many ns + r) ≡ digits ns r
+unfolding many digits
+digits-add [] h q r = refl
+digits-add (n ∷ ns) h q r =
+    let l = some-left n (many ns) h in
+    ap (λ (x : ℕ). turns ns (x + r) % n ∷ digits ns (x + r)) (sym (mul-assoc q n (many ns)))
+    ∙ ap₂ _∷_ (ap (λ (x : ℕ). x % n) (turns-add ns (l .1) (q * n) r) ∙ mul-add-mod-self-right q n (turns ns r)) (digits-add ns (l .1) (q * n) r)
+
+-- ---- tuples
+
+getD-map-in : {A B : Type 0} (f : A → B) (xs : List A) (i : ℕ) (d : A) (d′ : B) → i < length xs → getD (map f xs) i d′ ≡ f (getD xs i d)
+getD-map-in f [] i d d′ h = absurd (let z : i < 0 = h in omega arith)
+getD-map-in f (x ∷ xs) zero d d′ h = refl
+getD-map-in f (x ∷ xs) (suc i) d d′ h = getD-map-in f xs i d d′ (omega arith)
+
+pub each-length : (cs : List CoverBin) (tails : List (List CoverBin)) → length (concatOf (λ c. map (c ∷_) tails) cs) ≡ length cs * length tails
+unfolding concatOf
+each-length [] tails = omega arith
+each-length (c ∷ cs) tails =
+    length-append (map (c ∷_) tails) (concatOf (λ c. map (c ∷_) tails) cs) ∙ ap₂ _+_ (length-map tails (c ∷_)) (each-length cs tails) ∙ omega arith
+
+pub tuples-many : (css : List (List CoverBin)) → length (tuples css) ≡ many (map length css)
+unfolding tuples many
+tuples-many [] = refl
+tuples-many (cs ∷ css) = each-length cs (tuples css) ∙ ap (length cs *_) (tuples-many css)
+
+pub many-products : (css : List (List CoverBin)) → many (map length css) ≡ productOf length css
+unfolding many productOf
+many-products [] = refl
+many-products (cs ∷ css) = ap (length cs *_) (many-products css)
+
+-- element r of block q
+block-at : (tails : List (List CoverBin)) (cs : List CoverBin) (q r : ℕ) → q < length cs → r < length tails
+    → getD (concatOf (λ c. map (c ∷_) tails) cs) (q * length tails + r) [] ≡ getD cs q noCoverBin ∷ getD tails r []
+unfolding concatOf
+block-at tails [] q r h k = absurd (let z : q < 0 = h in omega arith)
+block-at tails (c ∷ cs) zero r h k =
+    let z : 0 * length tails + r ≡ r = omega arith in
+    let l : r < length (map (c ∷_) tails) = rw (length-map tails (c ∷_)) k in
+    ap (λ (x : ℕ). getD (map (c ∷_) tails ++ concatOf (λ c. map (c ∷_) tails) cs) x []) z
+    ∙ List·getD-append (map (c ∷_) tails) (concatOf (λ c. map (c ∷_) tails) cs) [] r l
+    ∙ getD-map-in (c ∷_) tails r [] [] k
+block-at tails (c ∷ cs) (suc q) r h k =
+    let z : suc q * length tails + r ≡ length (map (c ∷_) tails) + (q * length tails + r) = omega (arith, length-map tails (c ∷_)) in
+    ap (λ (x : ℕ). getD (map (c ∷_) tails ++ concatOf (λ c. map (c ∷_) tails) cs) x []) z
+    ∙ getD-append-add (map (c ∷_) tails) (concatOf (λ c. map (c ∷_) tails) cs) (q * length tails + r) []
+    ∙ block-at tails cs q r (omega arith) k
+
+pub tuple-at : (css : List (List CoverBin)) (i : ℕ) → i < many (map length css) → getD (tuples css) i [] ≡ pick css (digits (map length css) i)
+unfolding tuples many digits pick
+tuple-at [] zero h = refl
+tuple-at [] (suc i) h = absurd (let z : suc i < 1 = h in omega arith)
+tuple-at (cs ∷ css) i h =
+    let ns = map length css in
+    let m = many ns in
+    let l = some-left (length cs) m (omega arith) in
+    let q = i / m in
+    let r = i % m in
+    let whole : q * m + r ≡ i = div-add-mod' i m in
+    let in-part : q < length cs = div-lt-iff-lt-mul (l .1) .1 h in
+    let in-rest : r < m = mod-lt i (l .1) in
+    let turned : turns ns i ≡ q = ap (turns ns) (sym whole) ∙ turns-add ns (l .1) q r ∙ ap (q +_) (turns-small ns r in-rest) ∙ omega arith in
+    let digit : turns ns i % length cs ≡ q = ap (λ (x : ℕ). x % length cs) turned ∙ mod-eq-of-lt in-part in
+    let others : digits ns i ≡ digits ns r = ap (digits ns) (sym whole) ∙ digits-add ns (l .1) q r in
+    let place : q * length (tuples css) + r ≡ i = ap (λ (x : ℕ). q * x + r) (tuples-many css) ∙ whole in
+    ap (λ (x : ℕ). getD (concatOf (λ c. map (c ∷_) (tuples css)) cs) x []) (sym place)
+    ∙ block-at (tuples css) cs q r in-part (rw (tuples-many css) in-rest)
+    ∙ ap₂ (λ (d : ℕ) (x : List CoverBin). getD cs d noCoverBin ∷ x) (sym digit) (tuple-at css r in-rest ∙ ap (pick css) (sym others))
+
+pub product-at : (t : Table) (c i : ℕ) → i < productCount t c → getD (products t c) i [] ≡ pick (crossParts t c) (digits (map length (crossParts t c)) i)
+unfolding products
+product-at t c i h = tuple-at (crossParts t c) i (rw (many-products (crossParts t c)) h)
+
+-- ---- the parts of a tuple
+
+pub length-digits : (ns : List ℕ) (i : ℕ) → length (digits ns i) ≡ length ns
+unfolding digits
+length-digits [] i = refl
+length-digits (n ∷ ns) i = ap suc (length-digits ns i)
+
+pick-at : (css : List (List CoverBin)) (ds : List ℕ) (p : ℕ) → p < length css → length ds ≡ length css → getD (pick css ds) p noCoverBin ≡ getD (getD css p []) (getD ds p 0) noCoverBin
+unfolding pick
+pick-at [] ds p h k = absurd (let z : p < 0 = h in omega arith)
+pick-at (cs ∷ css) [] p h k = absurd (omega (arith, let z : 0 ≡ suc (length css) = k in z))
+pick-at (cs ∷ css) (d ∷ ds) zero h k = refl
+pick-at (cs ∷ css) (d ∷ ds) (suc p) h k = pick-at css ds p (omega arith) (omega arith)
+
+-- the part at a position of tuple i is the bin with the number that `digit_of` answers
+pub part-at : (css : List (List CoverBin)) (i p : ℕ) → i < many (map length css) → p < length css
+    → getD (getD (tuples css) i []) p noCoverBin ≡ getD (getD css p []) (getD (digits (map length css) i) p 0) noCoverBin
+part-at css i p h k =
+    ap (λ (l : List CoverBin). getD l p noCoverBin) (tuple-at css i h)
+    ∙ pick-at css (digits (map length css) i) p k (length-digits (map length css) i ∙ length-map css length)
+
+-- ---- one digit, by division from the last part on
+
+turns-none : (ns : List ℕ) (i : ℕ) → i ≡ turns (drop (length ns) ns) i
+unfolding turns
+turns-none [] i = refl
+turns-none (n ∷ ns) i = turns-none ns i
+
+pub digit-at : (ns : List ℕ) (i p : ℕ) → p < length ns → turns (drop (suc p) ns) i % getD ns p 0 ≡ getD (digits ns i) p 0
+unfolding digits
+digit-at [] i p h = absurd (let z : p < 0 = h in omega arith)
+digit-at (n ∷ ns) i zero h = refl
+digit-at (n ∷ ns) i (suc p) h = digit-at ns i p (omega arith)
+
+-- the loop's start, a turn of it, and its end
+module _ (ns : List ℕ) (i : ℕ) where
+  pub turns-start : i ≡ turns (drop (length ns) ns) i
+  turns-start = turns-none ns i
+
+  module _ (j rest : ℕ) (inv : rest ≡ turns (drop j ns) i) (r : ℕ) where
+    pub turns-on : 1 ≤ j → j ≤ length ns → r ≡ rest / getD ns (j - 1) 0 → r ≡ turns (drop (j - 1) ns) i
+    unfolding turns
+    turns-on h k e =
+        let z : j ≡ suc (j - 1) = omega arith in
+        let next : rest ≡ turns (drop (suc (j - 1)) ns) i = inv ∙ ap (λ (x : ℕ). turns (drop x ns) i) z in
+        e ∙ ap (λ (x : ℕ). x / getD ns (j - 1) 0) next ∙ sym (ap (λ (l : List ℕ). turns l i) (drop-cons ns (j - 1) 0 (omega arith)))
+
+    pub digit-end : (p : ℕ) → p < length ns → j ≡ p + 1 → r ≡ rest % getD ns p 0 → r ≡ getD (digits ns i) p 0
+    digit-end p h k e =
+        let z : j ≡ suc p = omega arith in
+        e ∙ ap (λ (x : ℕ). x % getD ns p 0) (inv ∙ ap (λ (x : ℕ). turns (drop x ns) i) z) ∙ digit-at ns i p h

@@ -1,0 +1,9 @@
+pub mod Laws
+pub mod Fixed
+pub mod Dealt
+pub mod NextLaws
+pub mod FlagsExact
+pub mod PointLaws
+pub mod PointExact
+pub mod ValueLaws
+pub mod Ready

@@ -1,0 +1,111 @@
+-- What the code asks of a table's places, ranges and readings, and an accepted table grants.
+-- Assumes nothing.
+use mathlib.Core.Path.{_≡_, refl, sym, ap, ap₂, _∙_, subst}
+use mathlib.Core.Bool.{Bool, true, false, _&&_, cond}
+use mathlib.Core.List.{List, [], _∷_}
+use Prim.Native.Nat.{ℕ, zero, suc, _+_, _-_, _*_, _^_, _≤_, _<_}
+use native.Mathlib.Omega.{arith}
+use lib.Dec.{leb, ltb, eqb}
+use lib.ListN.{length}
+use lib.Pow.{pow-mono}
+use borrow.Author.Tests.{leb-true, leb-false, lt-ltb}
+use Rattle.model.specs.Lists.{all}
+use Rattle.model.specs.Table.{Point, Range, span, pattern, ValueBin, Table}
+use Rattle.model.specs.Values.{bias, readValue, lowest, highest}
+use Rattle.model.specs.Counters.{pointAt}
+use Rattle.model.specs.Ranges.{size}
+use Rattle.model.specs.Format.{u16, pointRecord, allowsPatterns, decode, decoded}
+use Rattle.model.specs.Raw.{countPlace, binsAt, recordCount, recordsPlace, rawTable}
+use Rattle.model.proofs.Readers.{All}
+use Rattle.model.proofs.Sections.{acceptance}
+use Rattle.model.proofs.Access.{bins-access}
+use Rattle.model.proofs.WellFormed.{GoodPoint, Legal, GoodBin, WellFormed, well-formed}
+use Rattle.model.proofs.TableExact.{point-at}
+use Rattle.model.proofs.RawLaws.{length-rows}
+use Rattle.model.proofs.RawExact.{next-place, raw-exact, sections-whole}
+use Rattle.ranges.specs.Types.{Wide}
+use Rattle.values.specs.Flags.{smallRange, binFits, fits}
+use Rattle.values.specs.Points.{Near}
+use Rattle.values.proofs.ValueLaws.{pow-half}
+use Rattle.values.proofs.PointExact.{point-raw}
+
+-- ---- ranges
+
+small-legal : (p : Point) (patterns : Bool) → GoodPoint p → (rs : List Range) → All (Legal p patterns) rs → all smallRange rs ≡ true
+unfolding all
+small-legal p patterns g [] h = refl
+small-legal p patterns g (span lo hi ∷ rs) h =
+    ap₂ _&&_ (lt-ltb (suc hi - lo) (2 ^ 33) (omega (arith, h .0 .0, h .0 .2, pow-mono {i = p .width} {j = 32} (g .narrow)))) (small-legal p patterns g rs (h .1))
+small-legal p patterns g (pattern bits mask ∷ rs) h = ap₂ _&&_ (lt-ltb 0 (2 ^ 33) (omega arith)) (small-legal p patterns g rs (h .1))
+
+module _ (t : Table) (ok : WellFormed t) where
+  good-fits : (bs : List ValueBin) → All (GoodBin (t .points)) bs → fits bs ≡ true
+  unfolding fits all binFits
+  good-fits [] h = refl
+  good-fits (b ∷ bs) h = ap₂ _&&_ (small-legal (pointAt t (b .point)) (allowsPatterns b) (point-at t ok (b .point)) (b .ranges) (h .0)) (good-fits bs (h .1))
+
+-- ---- readings
+
+pub read-top : (p : Point) → GoodPoint p → (bits : ℕ) → bits < 2 ^ p .width → readValue p bits ≤ highest p
+read-top p g bits h = go (p .signed) (leb (2 ^ (p .width - 1)) bits) refl
+  where
+    w : ℕ
+    w = p .width
+
+    go : (signed high : Bool) → leb (2 ^ (w - 1)) bits ≡ high → cond (signed && high) (bits + bias - 2 ^ w) (bits + bias) ≤ cond signed (bias - 2 ^ (w - 1)) bias + 2 ^ w - 1
+    go false high e = omega arith
+    go true false e = omega (arith, leb-false (2 ^ (w - 1)) bits e, pow-half w (g .wide), pow-mono {i = w - 1} {j = 31} (omega (arith, g .narrow)))
+    go true true e = omega (arith, leb-true (2 ^ (w - 1)) bits e, pow-half w (g .wide), pow-mono {i = w - 1} {j = 31} (omega (arith, g .narrow)))
+
+-- ---- places
+
+length-bins : (s : List ℕ) (a r n : ℕ) → length (binsAt s a r n) ≡ n
+unfolding binsAt
+length-bins s a r zero = refl
+length-bins s a r (suc n) = ap suc (length-bins s (a + 8) _ n)
+
+module _ (s : List ℕ) (t : Table) (e : decode s ≡ decoded t) (p : ℕ) (inside : p < length (t .points)) where
+  bins-raw : t .valueBins ≡ binsAt s (recordsPlace s 1) (recordsPlace s 2) (recordCount s 1)
+  unfolding rawTable
+  bins-raw = ap (λ (u : Table). u .valueBins) (raw-exact s t e)
+
+  many : length (t .points) ≡ recordCount s 0
+  unfolding rawTable
+  many = ap (λ (u : Table). length (u .points)) (raw-exact s t e) ∙ length-rows (pointRecord s) 11 (recordsPlace s 0) (recordCount s 0)
+
+  pub all-near : Near (recordsPlace s 0 + 11 * p) (recordsPlace s 1) (recordsPlace s 2) (recordCount s 1) (recordsPlace s 3) (recordCount s 3)
+  unfolding recordsPlace recordCount
+  all-near =
+      let a = acceptance s t e in
+      let whole = sections-whole s t e in
+      let p₀ = next-place s 0 11 refl in
+      let p₁ = next-place s 1 8 refl in
+      let p₂ = next-place s 2 17 refl in
+      let p₃ = next-place s 3 4 refl in
+      let p₄ = next-place s 4 1 refl in
+      let p₅ = next-place s 5 3 refl in
+      let p₆ = next-place s 6 17 refl in
+      let p₇ = next-place s 7 13 refl in
+      let p₈ = next-place s 8 3 refl in
+      let p₉ = next-place s 9 20 refl in
+      let top : countPlace s 4 ≤ 65536 = omega (arith, a .short) in
+      record {
+        point-near = omega (arith, many);
+        bins-near = omega arith;
+        ranges-near = omega arith;
+        few-bins = omega (arith, bins-access s t (length s) (a .layout) .0 .high, ap length bins-raw, length-bins s (recordsPlace s 1) (recordsPlace s 2) (recordCount s 1));
+        transitions-near = omega arith;
+        few-transitions = omega arith;
+      }
+
+  pub all-fit : fits (binsAt s (recordsPlace s 1) (recordsPlace s 2) (recordCount s 1)) ≡ true
+  all-fit = ap fits (sym bins-raw) ∙ good-fits t (well-formed s t e) (t .valueBins) (well-formed s t e .bins)
+
+  pub good-record : GoodPoint (pointRecord s (recordsPlace s 0 + 11 * p))
+  good-record = subst GoodPoint (point-raw s t e p inside) (point-at t (well-formed s t e) p)
+
+  pub wide : Wide s (recordsPlace s 0 + 11 * p)
+  wide = record { low = good-record .wide; high = good-record .narrow }
+
+  pub some-auto : 1 ≤ u16 s (recordsPlace s 0 + 11 * p + 9)
+  some-auto = good-record .someAuto

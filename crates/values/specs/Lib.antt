@@ -1,0 +1,5 @@
+pub mod Put
+pub mod PutLaws
+pub mod Flags
+pub mod Value
+pub mod Points

@@ -1,0 +1,120 @@
+// The flags of a point's value bins and auto bins.
+use crate::autos::put_auto;
+use crate::bins::excluded;
+use crate::bins::listed;
+use crate::flags::put_bins;
+use words::bytes::byte;
+use words::bytes::read2;
+ghost use mathlib.Core.Path.{_≡_};
+ghost use mathlib.Core.Bool.{true, not};
+ghost use Prim.Native.Nat.{_<_, _≤_, _+_, _*_, _^_, min};
+ghost use lib.ListN.{length};
+ghost use Rattle.model.specs.Format.{pointRecord, u16, byte};
+ghost use Rattle.model.specs.Counters.{autoCount};
+ghost use Rattle.model.specs.Values.{lowest, highest};
+ghost use Rattle.model.specs.Raw.{binsAt};
+ghost use Rattle.ranges.specs.Types.{Wide};
+ghost use Rattle.values.specs.Put.{put};
+ghost use Rattle.values.specs.Flags.{fits};
+ghost use Rattle.values.specs.Points.{someOwn, hasAutoAt, autoPart, pointFlags, Near};
+
+// One of n records of size bytes is a cover bin of the point, or a default bin if these count.
+fn some_own(t: &[u8], start: usize, size: usize, n: usize, p: u8, defaults: bool) -> bool
+    requires { ⌜ (start < 1000000000) × (size ≤ 8) × (n < 65536) ⌝ }
+    ensures { λ b. ⌜ b ≡ someOwn (now (t .entry)) p defaults size start n ⌝ }
+{
+    let mut at = start;
+    let mut i = 0;
+    while i < n {
+        let q = byte(t, at);
+        let k = byte(t, at + 1);
+        if (q == p) & ((k == 0) | (defaults & (3 <= k))) {
+            return true;
+        }
+        at += size;
+        i += 1;
+    }
+    false
+}
+
+// The point has auto bins: n value bins from a on, k transition bins from b on.
+fn has_auto(t: &[u8], a: usize, n: usize, b: usize, k: usize, p: u8) -> bool
+    requires { ⌜ (a < 1000000000) × (n < 65536) × (b < 1000000000) × (k < 65536) ⌝ }
+    ensures { λ r. ⌜ r ≡ hasAutoAt (now (t .entry)) p a n b k ⌝ }
+{
+    let x = some_own(t, a, 8, n, p, true);
+    let y = some_own(t, b, 4, k, p, false);
+    !x & !y
+}
+
+// The auto bins of the point whose record stands at point.
+fn put_autos(
+    flags: &mut [u8],
+    cur: usize,
+    t: &[u8],
+    point: usize,
+    v: u64,
+    has: bool,
+    live: bool,
+) -> usize
+    requires { ⌜ (point < 1000000000) × Wide (now t) point × (1 ≤ u16 (now t) (point + 9)) ⌝ }
+    requires { ⌜ (lowest (pointRecord (now t) point) ≤ v) × (v ≤ highest (pointRecord (now t) point)) × (cur + length (autoPart has live v (pointRecord (now t) point)) ≤ length (now flags)) ⌝ }
+    ensures { λ e. ⌜ (e ≡ cur + length (autoPart has live v (pointRecord (now (t .entry)) point))) × (now (flags .exit) ≡ put cur (autoPart has live v (pointRecord (now (t .entry)) point)) (now (flags .entry))) ⌝ }
+{
+    if !has {
+        return cur;
+    }
+    let width = byte(t, point);
+    let signed = byte(t, point + 1);
+    let low = ranges::lowest(width, signed == 1);
+    let all = ranges::power(width);
+    let number = auto_count(all, read2(t, point + 9));
+    put_auto(flags, cur, low, low + all - 1, number, v, live)
+}
+
+fn auto_count(all: u64, most: u16) -> usize
+    ensures { λ r. ⌜ r ≡ min all most ⌝ }
+{
+    if all < most as u64 {
+        all as usize
+    } else {
+        most as usize
+    }
+}
+
+// The flags of point p, whose record stands at point, for the value v: n value bins from a on, their ranges from r on, k transition bins from b on.
+pub fn put_point(
+    flags: &mut [u8],
+    cur: usize,
+    t: &[u8],
+    point: usize,
+    a: usize,
+    r: usize,
+    n: usize,
+    b: usize,
+    k: usize,
+    sample: &[u32],
+    p: u8,
+    v: u64,
+) -> usize
+    requires { ⌜ (Near point a r n b k) × Wide (now t) point × (1 ≤ u16 (now t) (point + 9)) × (fits (binsAt (now t) a r n) ≡ true) ⌝ }
+    requires { ⌜ (v < 2 ^ 60) × (lowest (pointRecord (now t) point) ≤ v) × (v ≤ highest (pointRecord (now t) point)) × (cur + length (pointFlags (now t) point a r n b k (now sample) p v) ≤ length (now flags)) ⌝ }
+    ensures { λ e. ⌜ (e ≡ cur + length (pointFlags (now (t .entry)) point a r n b k (now (sample .entry)) p v)) × (now (flags .exit) ≡ put cur (pointFlags (now (t .entry)) point a r n b k (now (sample .entry)) p v) (now (flags .entry))) ⌝ }
+{
+    let x = excluded(t, a, r, n, p, v);
+    let l = listed(t, a, r, n, p, v);
+    let has = has_auto(t, a, n, b, k, p);
+    let low = lowest_at(t, point);
+    let c = put_bins(flags, cur, t, a, r, n, p, sample, low, v, x, l);
+    put_autos(flags, c, t, point, v, has, !x)
+}
+
+// The lowest value of the point's type.
+fn lowest_at(t: &[u8], point: usize) -> u64
+    requires { ⌜ (point < 1000000000) × Wide (now t) point ⌝ }
+    ensures { λ r. ⌜ r ≡ lowest (pointRecord (now (t .entry)) point) ⌝ }
+{
+    let width = byte(t, point);
+    let signed = byte(t, point + 1);
+    ranges::lowest(width, signed == 1)
+}
