@@ -14,8 +14,9 @@ use Rattle.model.specs.Table.{Step}
 use Rattle.model.specs.Sampling.{Reading, inStep, runLength, longer, complete, nextSteps, matchedLengths}
 use Rattle.sequences.specs.declared.Steps.{Steps}
 use Rattle.sequences.specs.Described.{sumFirst, wordsOf, Fits, Shaped, Describes}
-use Rattle.sequences.specs.Words.{put, stepWords, completeFrom, stepsWords, padded}
-use Rattle.sequences.proofs.Extra.{put-zero, drop-replicate, part-back}
+use Rattle.sequences.specs.Words.{stepWords, completeFrom, stepsWords, padded}
+use Rattle.arrays.specs.Put.{put}
+use Rattle.arrays.proofs.PutLaws.{put-zero, drop-replicate, part-back}
 
 leasts : List Step → List ℕ
 leasts ss = map (λ s. s .least) ss

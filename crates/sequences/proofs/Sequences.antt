@@ -15,8 +15,9 @@ use Rattle.model.specs.Sampling.{Reading, skipped, unknown, known, isSkipped, i
 use Rattle.model.specs.Register.{Sequence, binSequences, nextRuns, binLengths, allLengths}
 use Rattle.sequences.specs.declared.Steps.{Steps}
 use Rattle.sequences.specs.Described.{Shaped, Describes}
-use Rattle.sequences.specs.Words.{put}
-use Rattle.sequences.proofs.Extra.{put-nil, put-cons, put-next, drop-put, put-zero, put-same, or-assoc}
+use Rattle.arrays.specs.Put.{put}
+use Rattle.arrays.proofs.PutLaws.{put-nil, put-cons, put-next, drop-put, put-zero, put-same}
+use Rattle.sequences.proofs.Extra.{or-assoc}
 use Rattle.sequences.proofs.NextSteps.{length-nextSteps}
 
 -- ---- arrays that were filled

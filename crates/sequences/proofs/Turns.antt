@@ -11,8 +11,10 @@ use lib.Seq.{getD-take, getD-drop, drop-drop}
 use Rattle.model.specs.Lists.{orAll}
 use Rattle.model.specs.Sampling.{longer}
 use Rattle.sequences.specs.Described.{sumFirst}
-use Rattle.sequences.specs.Words.{put, stepWords, completeFrom, stepsWords}
-use Rattle.sequences.proofs.Extra.{head-tail, left-suc, put-nil, put-cons, put-next, orAll-turn}
+use Rattle.sequences.specs.Words.{stepWords, completeFrom, stepsWords}
+use Rattle.arrays.specs.Put.{put}
+use Rattle.arrays.proofs.PutLaws.{head-tail, left-suc, put-nil, put-cons, put-next}
+use Rattle.sequences.proofs.Extra.{orAll-turn}
 use Rattle.sequences.proofs.NextSteps.{length-stepWords}
 
 -- ---- complete

@@ -8,10 +8,6 @@ use lib.ListN.{length, take, drop, replicate}
 use Rattle.model.specs.Lists.{orAll}
 use Rattle.model.specs.Sampling.{longer}
 
--- l with xs at n, n + 1, ..
-unfoldable pub put : {A : Type 0} → ℕ → List A → List A → List A
-put n xs l = take n l ++ xs ++ drop (n + length xs) l
-
 -- a step's next words: `enter` at the first, and each word one place on and one reading longer; all 0 if the reading is not in the step
 unfoldable pub stepWords : Bool → ℕ → List ℕ → List ℕ
 stepWords b enter [] = []

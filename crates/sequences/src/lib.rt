@@ -7,7 +7,8 @@ ghost use lib.ListN.{length, take, drop, replicate};
 ghost use Rattle.model.specs.Table.{Step};
 ghost use Rattle.model.specs.Sampling.{Reading, runLength, nextSteps, matchedLengths};
 ghost use Rattle.sequences.specs.Described.{wordsOf, Fits, Shaped, Describes};
-ghost use Rattle.sequences.specs.Words.{put, stepWords, completeFrom, padded};
+ghost use Rattle.sequences.specs.Words.{stepWords, completeFrom, padded};
+ghost use Rattle.arrays.specs.Put.{put};
 
 // The run words of a sequence come first, one for each unit of its steps' mosts. The words after them are free.
 pub struct Run {

@@ -12,7 +12,7 @@ use borrow.Author.Tests.{eq-eqb, ne-eqb, le-leb}
 use Rattle.model.specs.Lists.{upFrom, oneOf, asBit, sumOf}
 use Rattle.model.specs.Table.{Range, span}
 use Rattle.model.specs.Ranges.{size, sizes}
-use Rattle.values.specs.Put.{put}
+use Rattle.arrays.specs.Put.{put}
 use Rattle.values.specs.Flags.{inSpan, placeIn, binsOf, setAll, fixedFlags, autoFlags}
 
 pub map-from : {A : Type 0} (f g : ℕ → A) (i n : ℕ) → ((j : ℕ) → i ≤ j → j < i + n → f j ≡ g j) → map f (upFrom i n) ≡ map g (upFrom i n)

@@ -21,7 +21,8 @@ use Rattle.model.proofs.NextValue.{IsSpan}
 use Rattle.model.proofs.WellFormed.{GoodPoint, GoodBin, WellFormed}
 use Rattle.model.proofs.Exact.{SpanOf, Divisible, first-exact, portion-exact, auto-exact}
 use Rattle.model.proofs.TableExact.{point-at, divisible}
-use Rattle.values.specs.Flags.{takes, lists, excludedIn, listedIn, Hit, hit, binsOf, fixedFlags, autoFlags, nextInSpan, nextSpan, valueFlags, coverFlags, flagsBy, binFlags, flagsIn, hitFlags}
+use Rattle.values.specs.Flags.{takes, lists, excludedIn, listedIn, Hit, hit, binsOf, fixedFlags, autoFlags, nextInSpan, nextSpan, valueFlags, coverFlags, flagsBy, binFlags, flagsIn}
+use Rattle.arrays.specs.Flat.{hitFlags}
 use Rattle.values.proofs.Fixed.{map-from}
 use Rattle.values.proofs.Dealt.{portion-bins}
 

@@ -20,8 +20,8 @@ use Rattle.model.specs.Ranges.{size, sizes}
 use Rattle.model.proofs.Booleans.{false-true, and-left, and-right}
 use Rattle.model.specs.Raw.{rows, rangesAt, binAt, binsAt}
 use Rattle.values.specs.Flags.{takes, lists, inSpan, placeIn, binsOf, setAll, markOne, fixedFlags, valueFlags, smallRange, coverFlags, Hit, hit, flagsBy, binFlags, flagsIn, binFits, fits, excludedIn, listedIn}
-use Rattle.values.specs.Put.{put}
-use Rattle.values.specs.PutLaws.{put-nil, put-put}
+use Rattle.arrays.specs.Put.{put}
+use Rattle.arrays.proofs.PutLaws.{put-nil, put-put}
 
 pub none-left : (m i : ℕ) → m ≤ i → m - i ≡ 0
 none-left m i h = omega arith

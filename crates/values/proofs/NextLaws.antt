@@ -19,8 +19,8 @@ use Rattle.model.proofs.Booleans.{false-true, and-left, and-right}
 use Rattle.model.proofs.Readers.{All}
 use Rattle.model.proofs.NextValue.{IsSpan}
 use Rattle.values.specs.Flags.{nextInSpan, nextSpan, valueFlags}
-use Rattle.values.specs.Put.{put}
-use Rattle.values.specs.PutLaws.{put-nil, put-put}
+use Rattle.arrays.specs.Put.{put}
+use Rattle.arrays.proofs.PutLaws.{put-nil, put-put}
 use Rattle.values.proofs.Laws.{none-left, one-left, row-step, row-end, row-start}
 
 -- ---- the next value of one span

@@ -21,7 +21,8 @@ use Rattle.model.proofs.WellFormed.{WellFormed, well-formed}
 use Rattle.model.proofs.Limits.{all-from}
 use Rattle.model.proofs.RawLaws.{length-rows, getD-rows}
 use Rattle.model.proofs.RawExact.{raw-exact}
-use Rattle.values.specs.Flags.{hit, flagsIn, excludedIn, listedIn, hitFlags}
+use Rattle.values.specs.Flags.{hit, flagsIn, excludedIn, listedIn}
+use Rattle.arrays.specs.Flat.{hitFlags}
 use Rattle.values.specs.Points.{someOwn, hasAutoAt, autoPart, pointFlags}
 use Rattle.values.proofs.FlagsExact.{map-append, flags-exact, auto-hits}
 

@@ -13,10 +13,10 @@ use Rattle.model.specs.Values.{lowest, highest}
 use Rattle.model.specs.Counters.{autoCount}
 use Rattle.model.specs.Format.{byte, u16, pointRecord}
 use Rattle.ranges.specs.Types.{powerOf, lowestOf}
-use Rattle.values.specs.Put.{put}
+use Rattle.arrays.specs.Put.{put}
 use Rattle.model.specs.Raw.{binsAt}
 use Rattle.values.specs.Flags.{hit, flagsIn, excludedIn, listedIn, autoFlags}
-use Rattle.values.specs.PutLaws.{put-put}
+use Rattle.arrays.proofs.PutLaws.{put-put}
 use Rattle.values.specs.Points.{isOwn, someOwn, hasAutoAt, autoPart, pointFlags}
 use Rattle.values.proofs.Laws.{none-left, one-left, length-fixed}
 

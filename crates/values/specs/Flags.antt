@@ -7,11 +7,10 @@ use mathlib.Core.List.{List, [], _∷_, _++_, map}
 use lib.Dec.{leb, ltb, eqb}
 use lib.ListN.{length, set}
 use Rattle.model.specs.Lists.{upFrom, any, all, oneOf, asBit}
-use Rattle.model.specs.Table.{Point, Kind, cover, ignore, illegal, default, Form, single, perValue, fixed, Range, span, pattern, ValueBin, Table, excludes}
+use Rattle.model.specs.Table.{Point, Kind, cover, ignore, illegal, default, Form, single, perValue, fixed, Range, span, pattern, ValueBin, excludes}
 use Rattle.model.specs.Values.{inRanges}
 use Rattle.model.specs.Ranges.{size, sizes, noValue}
-use Rattle.model.specs.Sampling.{guardTrue, Stretches, hits}
-use Rattle.model.specs.Counters.{Counter}
+use Rattle.model.specs.Sampling.{guardTrue}
 
 -- the bin takes the value from the point's cover bins; the bin lists the value
 abbrev pub takes : ℕ → ℕ → ValueBin → Bool
@@ -110,7 +109,3 @@ flagsIn h p (b ∷ bs) = binFlags h p b ++ flagsIn h p bs
 -- the auto bins of a point whose type goes from low to high: n bins; live: the value is not excluded
 abbrev pub autoFlags : Bool → ℕ → ℕ → ℕ → ℕ → List ℕ
 autoFlags live v n low high = fixedFlags live v n (span low high ∷ [])
-
--- the flags of some counters (the model's)
-unfoldable pub hitFlags : Table → List ℕ → Stretches → List Counter → List ℕ
-hitFlags t w m cs = map (λ c. asBit (hits t w m c)) cs

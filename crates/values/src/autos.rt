@@ -1,11 +1,11 @@
 // Flags of a point's auto bins.
 use crate::marks::bin_at;
-use crate::marks::put_same;
+use arrays::put_same;
 use crate::marks::share_of;
 ghost use mathlib.Core.Path.{_≡_};
 ghost use Prim.Native.Nat.{_<_, _≤_, _+_, _^_};
 ghost use lib.ListN.{length};
-ghost use Rattle.values.specs.Put.{put};
+ghost use Rattle.arrays.specs.Put.{put};
 ghost use Rattle.values.specs.Flags.{autoFlags};
 
 // number flags from the cursor on, for a type from low to high. live: the value is not excluded.

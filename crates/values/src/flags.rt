@@ -1,7 +1,7 @@
 // The flags of a point's value bins, bin after bin.
 use crate::fields::guard_true;
 use crate::marks::put_fixed;
-use crate::marks::put_one;
+use arrays::put_one;
 use crate::member::in_ranges;
 use crate::rising::put_values;
 use words::bytes::byte;
@@ -14,7 +14,7 @@ ghost use Rattle.model.specs.Format.{u16, formFrom, kindFrom};
 ghost use Rattle.model.specs.Values.{inRanges};
 ghost use lib.Dec.{eqb};
 ghost use Rattle.model.specs.Ranges.{sizes};
-ghost use Rattle.values.specs.Put.{put};
+ghost use Rattle.arrays.specs.Put.{put};
 ghost use Rattle.model.specs.Raw.{rangesAt, binAt, binsAt};
 ghost use Rattle.values.specs.Flags.{hit, coverFlags, binFits, fits, binFlags, flagsIn};
 

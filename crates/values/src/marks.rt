@@ -1,5 +1,6 @@
 // Flags of a cover bin that stands for several bins.
 use crate::fields::field;
+use arrays::put_same;
 use words::bytes::byte;
 ghost use mathlib.Core.Path.{_≡_};
 ghost use mathlib.Core.Bool.{true};
@@ -9,39 +10,9 @@ ghost use lib.ListN.{length, replicate};
 ghost use Rattle.model.specs.Lists.{asBit};
 ghost use Rattle.model.specs.Format.{rangeRecord};
 ghost use Rattle.model.specs.Ranges.{size, sizes};
-ghost use Rattle.values.specs.Put.{put};
+ghost use Rattle.arrays.specs.Put.{put};
 ghost use Rattle.model.specs.Raw.{rangesAt};
 ghost use Rattle.values.specs.Flags.{inSpan, placeIn, binsOf, setAll, markOne, fixedFlags};
-
-pub fn as_bit(b: bool) -> u8
-    ensures { λ r. ⌜ r ≡ asBit b ⌝ }
-{
-    if b { 1 } else { 0 }
-}
-
-// One flag at the cursor.
-pub fn put_one(flags: &mut [u8], at: usize, b: bool) -> usize
-    requires { ⌜ at < length (now flags) ⌝ }
-    ensures { λ r. ⌜ (r ≡ at + 1) × (now (flags .exit) ≡ put at (asBit b ∷ []) (now (flags .entry))) ⌝ }
-{
-    let x = as_bit(b);
-    flags[at] = x;
-    at + 1
-}
-
-// n flags v from the cursor on.
-pub fn put_same(flags: &mut [u8], at: usize, n: usize, v: u8) -> usize
-    requires { ⌜ at + n ≤ length (now flags) ⌝ }
-    ensures { λ r. ⌜ (r ≡ at + n) × (now (flags .exit) ≡ put at (replicate n v) (now (flags .entry))) ⌝ }
-{
-    let e = at + n;
-    let mut i = at;
-    while i < e {
-        flags[i] = v;
-        i += 1;
-    }
-    e
-}
 
 // How many values the range at at has, if it is a span.
 fn size_at(t: &[u8], at: usize) -> u64

@@ -14,7 +14,7 @@ ghost use Rattle.model.specs.Counters.{autoCount};
 ghost use Rattle.model.specs.Values.{lowest, highest};
 ghost use Rattle.model.specs.Raw.{binsAt};
 ghost use Rattle.ranges.specs.Types.{Wide};
-ghost use Rattle.values.specs.Put.{put};
+ghost use Rattle.arrays.specs.Put.{put};
 ghost use Rattle.values.specs.Flags.{fits};
 ghost use Rattle.values.specs.Points.{someOwn, hasAutoAt, autoPart, pointFlags, Near};
 

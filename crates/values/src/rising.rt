@@ -1,13 +1,13 @@
 // Flags of a cover bin with one bin per value: the values of its spans, from the lowest up.
 use crate::fields::field;
-use crate::marks::put_one;
+use arrays::put_one;
 use words::bytes::byte;
 ghost use mathlib.Core.Path.{_≡_};
 ghost use Prim.Native.Nat.{_<_, _≤_, _+_, min, max};
 ghost use lib.ListN.{length};
 ghost use Rattle.model.specs.Format.{rangeRecord};
 ghost use Rattle.model.specs.Raw.{rangesAt};
-ghost use Rattle.values.specs.Put.{put};
+ghost use Rattle.arrays.specs.Put.{put};
 ghost use Rattle.values.specs.Flags.{nextInSpan, nextSpan, valueFlags};
 
 fn least(a: u64, b: u64) -> u64

@@ -4,8 +4,8 @@ use mathlib.Core.List.{List, _++_}
 use Prim.Native.Nat.{ℕ, _-_}
 use native.Mathlib.Omega.{arith}
 use lib.ListN.{length, drop, length-set, replicate}
-use Rattle.sequences.specs.Words.{put}
-use Rattle.sequences.proofs.Extra.{put-zero, drop-replicate}
+use Rattle.arrays.specs.Put.{put}
+use Rattle.arrays.proofs.PutLaws.{put-zero, drop-replicate}
 use Rattle.sequences.proofs.Turns.{copy-turn, copy-end}
 use Rattle.sequences.proofs.load.Statement.{statement}
 use Rattle.sequences.proofs.load.Tie as tie

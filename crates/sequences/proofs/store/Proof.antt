@@ -6,8 +6,8 @@ use native.Mathlib.Omega.{arith}
 use borrow.Author.Needs.{needs}
 use lib.ListN.{length, take, drop, getD, set, length-set}
 use lib.Seq.{getD-take, length-take-le}
-use Rattle.sequences.specs.Words.{put}
-use Rattle.sequences.proofs.Extra.{put-all}
+use Rattle.arrays.specs.Put.{put}
+use Rattle.arrays.proofs.PutLaws.{put-all}
 use Rattle.sequences.proofs.Turns.{copy-turn, copy-end}
 use Rattle.sequences.proofs.store.Statement.{statement}
 use Rattle.sequences.proofs.store.Tie as tie

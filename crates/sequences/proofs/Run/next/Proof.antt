@@ -6,7 +6,8 @@ use borrow.Author.Needs.{needs}
 use lib.ListN.{length, drop, getD}
 use Rattle.model.specs.Sampling.{longer}
 use Rattle.sequences.specs.Described.{sumFirst}
-use Rattle.sequences.specs.Words.{put, stepsWords}
+use Rattle.sequences.specs.Words.{stepsWords}
+use Rattle.arrays.specs.Put.{put}
 use Rattle.sequences.proofs.NextSteps.{run-described}
 use Rattle.sequences.proofs.Turns.{sum-turn, steps-turn, steps-end}
 use Rattle.sequences.proofs.Run.next.Statement.{statement}

@@ -5,8 +5,8 @@ use Prim.Native.Nat.{ℕ, _+_, _-_, _*_, _≤_}
 use native.Mathlib.Omega.{arith}
 use lib.ListN.{length}
 use Rattle.model.specs.Table.{ValueBin}
-use Rattle.values.specs.Put.{put}
-use Rattle.values.specs.PutLaws.{put-nil}
+use Rattle.arrays.specs.Put.{put}
+use Rattle.arrays.proofs.PutLaws.{put-nil}
 use Rattle.model.specs.Raw.{binsAt}
 use Rattle.values.specs.Flags.{hit, flagsIn, fits}
 use Rattle.values.proofs.Laws.{bins-start, fits-here, fits-on, bin-room, write-turn, flags-end}

@@ -3,7 +3,7 @@ use Prim.Native.Nat.{_+_, _-_, _*_, _^_, _≤_, min}
 use native.Mathlib.Omega.{arith}
 use lib.ListN.{length}
 use Rattle.model.specs.Raw.{rangesAt}
-use Rattle.values.specs.Put.{put}
+use Rattle.arrays.specs.Put.{put}
 use Rattle.values.specs.Flags.{valueFlags}
 use Rattle.values.proofs.NextLaws.{value-turn, value-stop, value-end, write-one, write-end}
 use Rattle.values.proofs.rising.put_values.Statement.{statement}

@@ -1,4 +1,4 @@
--- `flagw::put_same` meets its contract. Assumes nothing.
+-- `put_same` meets its contract. Assumes nothing.
 use borrow.Author.Needs.{needs}
 use mathlib.Core.Path.{_≡_, refl, ap, sym, _∙_}
 use mathlib.Core.List.{List, [], _∷_, _++_}
@@ -6,11 +6,11 @@ use Prim.Native.Nat.{ℕ, suc, _+_, _-_, _^_, _≤_, _<_}
 use native.Mathlib.Omega.{arith}
 use native.Mathlib.Nat.{sub-zero}
 use lib.ListN.{length, take, drop, getD, set, replicate, length-set, take-append-drop}
-use Rattle.values.specs.Put.{put}
-use Rattle.values.specs.PutLaws.{put-nil, put-cons}
-use Rattle.values.proofs.Laws.{one-left}
-use Rattle.values.proofs.marks.put_same.Statement.{statement}
-use Rattle.values.proofs.marks.put_same.Tie as tie
+use Rattle.arrays.specs.Put.{put}
+use Rattle.arrays.proofs.PutLaws.{put-nil, put-cons}
+use Rattle.arrays.proofs.PutLaws.{left-suc}
+use Rattle.arrays.proofs.put_same.Statement.{statement}
+use Rattle.arrays.proofs.put_same.Tie as tie
 
 abbrev Inv-loop : tie.InvT-loop
 Inv-loop flags₀ at n v e i₀ flags i =
@@ -21,7 +21,7 @@ abbrev μ-loop : tie.MeasureT-loop
 
 step : (e i v : ℕ) (l : List ℕ) → i < e → i < length l →
     put (i + 1) (replicate (e - (i + 1)) v) (set l i v) ≡ put i (replicate (e - i) v) l
-step e i v l h hl = rw (one-left e i h) (put-cons i v (replicate (e - (i + 1)) v) l hl)
+step e i v l h hl = rw (left-suc e i h) (put-cons i v (replicate (e - (i + 1)) v) l hl)
 
 add-e : tie.Need-add-e Inv-loop μ-loop
 add-e c = omega arith

@@ -3,10 +3,10 @@ use mathlib.Core.List.{[]}
 use Prim.Native.Nat.{_+_}
 use native.Mathlib.Omega.{arith}
 use lib.ListN.{set}
-use Rattle.values.specs.PutLaws.{put-nil, put-cons}
+use Rattle.arrays.proofs.PutLaws.{put-nil, put-cons}
 use borrow.Author.Needs.{needs}
-use Rattle.values.proofs.marks.put_one.Statement.{statement}
-use Rattle.values.proofs.marks.put_one.Tie as tie
+use Rattle.arrays.proofs.put_one.Statement.{statement}
+use Rattle.arrays.proofs.put_one.Tie as tie
 
 as-bit-requires : tie.Need-as-bit-requires
 as-bit-requires c κs = search needs
