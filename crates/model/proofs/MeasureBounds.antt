@@ -69,14 +69,14 @@ count-length f (x ∷ xs) = go (f x) (count-length f xs)
     go false h = omega arith
 
 module _ (s : List ℕ) (t : Table) (end : ℕ) (l : Layout s t end) (within : withinLimits t ≡ true) where
-  point-counters : sumOf (λ p. length (pointCounters t p)) (upFrom 0 (length (t .points))) ≤ 256 * 16
+  pub point-counters : sumOf (λ p. length (pointCounters t p)) (upFrom 0 (length (t .points))) ≤ 256 * 16
   unfolding withinLimits
   point-counters =
       let a = all-sum (λ p. length (pointCounters t p)) 256 0 (length (t .points)) (and-left _ (all (λ c. leb (productCount t c) 1024) (upFrom 0 (length (t .crosses)))) within) in
       let b = points-access s t end l .0 .high in
       omega arith
 
-  cross-counters : sumOf (λ c. length (crossCounters t c)) (upFrom 0 (length (t .crosses))) ≤ 128 + 1024 * 8
+  pub cross-counters : sumOf (λ c. length (crossCounters t c)) (upFrom 0 (length (t .crosses))) ≤ 128 + 1024 * 8
   unfolding withinLimits
   cross-counters =
       let ns = upFrom 0 (length (t .crosses)) in
@@ -89,7 +89,7 @@ module _ (s : List ℕ) (t : Table) (end : ℕ) (l : Layout s t end) (within : w
       let g : sumOf (λ c. crossSum transitionsOf (crossAt t c)) ns ≡ sumOf (crossSum transitionsOf) (t .crosses) = sum-numbers (crossSum transitionsOf) noCross (t .crosses) in
       omega arith
 
-  counters-few : counterTotal t ≤ 12416
+  pub counters-few : counterTotal t ≤ 12416
   unfolding counters
   counters-few =
       let ps = upFrom 0 (length (t .points)) in

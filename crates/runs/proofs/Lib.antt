@@ -1,0 +1,6 @@
+pub mod Extra
+pub mod Codes
+pub mod Turns
+pub mod Written
+pub mod Exact
+pub mod Ready

@@ -1,0 +1,116 @@
+// The lengths at which each transition bin matches, by its run words.
+use crate::steps::ranges_past;
+use crate::steps::steps_at;
+use layout::layout_of;
+use sequences::lengths_at;
+use sequences::run_length;
+use words::bytes::byte;
+ghost use mathlib.Core.Path.{_≡_};
+ghost use mathlib.Core.Bool.{true};
+ghost use Prim.Native.Nat.{_+_, _<_, _≤_};
+ghost use lib.ListN.{length, take, drop};
+ghost use Rattle.model.specs.Lists.{all, sumOf};
+ghost use Rattle.model.specs.Sampling.{runLength};
+ghost use Rattle.model.specs.Format.{accepted, tableOf};
+ghost use Rattle.model.specs.Raw.{sequencesAt, transitionsAt};
+ghost use Rattle.model.specs.Register.{runTotal, binLengths, allLengths};
+ghost use Rattle.arrays.specs.Put.{put};
+ghost use Rattle.runs.specs.Runs.{binWords, sequenceFits, binFits, Ends};
+
+// The lengths at which some sequence of a bin matches; where its words end in the register, and its steps and step ranges in the table.
+struct Matched {
+    lengths: u32,
+    words: usize,
+    steps: usize,
+    ranges: usize,
+}
+
+// n sequences of a bin, whose records stand from q on, their steps from p on, the step ranges from r on. Only the steps' numbers count here: the
+// code is that of an unknown reading.
+fn bin_lengths(
+    t: &[u8],
+    register: &[u32],
+    a: usize,
+    q: usize,
+    p: usize,
+    r: usize,
+    n: usize,
+) -> Matched
+    requires { ⌜ (q < 1000000000) × (p < 1000000000) × (r < 1400000000) × (n < 256) ⌝ }
+    requires { ⌜ (all sequenceFits (sequencesAt (now t) q p r n) ≡ true) × (a + sumOf runLength (sequencesAt (now t) q p r n) ≤ length (now register)) ⌝ }
+    ensures { λ e. ⌜ Ends (now (t .entry)) q p r a n (e .words) (e .steps) (e .ranges) ⌝ }
+    ensures { λ e. ⌜ e .lengths ≡ binLengths (sequencesAt (now (t .entry)) q p r n) (drop a (now (register .entry))) ⌝ }
+{
+    let mut out: u32 = 0;
+    let mut words = a;
+    let mut steps = p;
+    let mut ranges = r;
+    let mut i = 0;
+    while i < n {
+        let k = byte(t, q + i) as usize;
+        let own = steps_at(t, steps, ranges, k, 8589934593);
+        out = out | lengths_at(register, words, own);
+        words += run_length(own);
+        ranges = ranges_past(t, steps, ranges, k);
+        steps += 3 * k;
+        i += 1;
+    }
+    Matched {
+        lengths: out,
+        words: words,
+        steps: steps,
+        ranges: ranges,
+    }
+}
+
+// The same of n transition bins, whose records stand from b on: one word for each.
+fn bins_lengths(
+    lens: &mut [u32],
+    t: &[u8],
+    register: &[u32],
+    at: usize,
+    b: usize,
+    q: usize,
+    p: usize,
+    r: usize,
+    n: usize,
+)
+    requires { ⌜ (n ≤ length (now lens)) × (b ≤ 16777216) × (q ≤ 16777216) × (p ≤ 16777216) × (r ≤ 16777216) × (n ≤ 64) ⌝ }
+    requires { ⌜ (all binFits (transitionsAt (now t) b q p r n) ≡ true) × (at + sumOf binWords (transitionsAt (now t) b q p r n) ≤ length (now register)) ⌝ }
+    ensures { λ _. ⌜ now (lens .exit) ≡ put 0 (allLengths (transitionsAt (now (t .entry)) b q p r n) (drop at (now (register .entry)))) (now (lens .entry)) ⌝ }
+{
+    let mut words = at;
+    let mut sequence = q;
+    let mut steps = p;
+    let mut ranges = r;
+    let mut i = 0;
+    while i < n {
+        let k = byte(t, b + 4 * i + 3) as usize;
+        let e = bin_lengths(t, register, words, sequence, steps, ranges, k);
+        lens[i] = e.lengths;
+        words = e.words;
+        steps = e.steps;
+        ranges = e.ranges;
+        sequence += k;
+        i += 1;
+    }
+}
+
+// The lengths at which each transition bin matches, by its run words, which stand in the register from at on.
+pub fn put_lengths(lens: &mut [u32], t: &[u8], register: &[u32], at: usize)
+    requires { ⌜ (accepted (now t) ≡ true) × (64 ≤ length (now lens)) × (at ≤ 65536) × (at + runTotal (tableOf (now t)) ≤ length (now register)) ⌝ }
+    ensures { λ _. ⌜ now (lens .exit) ≡ put 0 (allLengths (tableOf (now (t .entry)) .transitionBins) (take (runTotal (tableOf (now (t .entry)))) (drop at (now (register .entry))))) (now (lens .entry)) ⌝ }
+{
+    let l = layout_of(t);
+    bins_lengths(
+        lens,
+        t,
+        register,
+        at,
+        l.transitions,
+        l.sequences,
+        l.steps,
+        l.step_ranges,
+        l.transition_count,
+    );
+}

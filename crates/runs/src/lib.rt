@@ -1,0 +1,4 @@
+// The runs of all sequences: what a sample does to them, and the lengths at which they match.
+pub mod advance;
+pub mod lengths;
+pub mod steps;
