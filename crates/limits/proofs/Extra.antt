@@ -14,7 +14,9 @@ use Rattle.model.specs.Raw.{rows}
 use Rattle.model.proofs.Booleans.{and-left, and-right}
 use Rattle.model.proofs.Readers.{All}
 use Rattle.words.proofs.Laws.{none-left, one-left}
+use Rattle.limits.specs.Walks.{walkSum, after}
 use Rattle.limits.specs.Bins.{here}
+use Rattle.limits.proofs.WalkLaws.{walk-cons}
 
 -- ---- lists
 
@@ -36,6 +38,11 @@ pub rows-up : (i n : ℕ) → rows here 1 i n ≡ upFrom i n
 unfolding rows upFrom
 rows-up i zero = refl
 rows-up i (suc n) = ap (i ∷_) (rows-up (i + 1) n ∙ ap (λ (j : ℕ). upFrom j n) (let z : i + 1 ≡ suc i = omega arith in z))
+
+pub walk-up : (f : ℕ → ℕ) (i n : ℕ) → walkSum 0 f (after 1) i n ≡ sumOf f (upFrom i n)
+unfolding sumOf upFrom
+walk-up f i zero = unfold walkSum in refl
+walk-up f i (suc n) = walk-cons f (after 1) i n ∙ ap (f i +_) (walk-up f (i + 1) n ∙ ap (λ (j : ℕ). sumOf f (upFrom j n)) (let z : i + 1 ≡ suc i = omega arith in z))
 
 -- some element passes exactly if what stands for the test is not 0 everywhere
 pub any-sum : {A : Type 0} (f : A → Bool) (g : A → ℕ) → ((x : A) → f x ≡ not (eqb (g x) 0)) → (xs : List A) → any f xs ≡ not (eqb (sumOf g xs) 0)

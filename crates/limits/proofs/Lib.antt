@@ -1,10 +1,12 @@
 -- laws of lists and loops
 pub mod Extra
 pub mod WalkLaws
+pub mod EntryLaws
 -- the table by places, as sums over its bytes
 pub mod RawSums
 pub mod ReadLaws
-pub mod BinLaws
+pub mod KindLaws
+pub mod SpanLaws
 pub mod PointLaws
 pub mod CrossLaws
 pub mod Totals

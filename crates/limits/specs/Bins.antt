@@ -1,16 +1,40 @@
--- What value bins and transition bins add to a point's counters, by the places of their records.
+-- What value bins, transition bins and auto bins add to the entries of their points; and the products of crosses.
 -- Assumes nothing.
-use Prim.Native.Nat.{ℕ, _+_, _*_, min}
+use Prim.Native.Nat.{ℕ, _+_, _*_, _≤_, min}
+use mathlib.Core.Path.{_≡_}
 use mathlib.Core.Bool.{Bool, true, false, _&&_, cond}
-use mathlib.Core.List.{List, map}
+use mathlib.Core.List.{List, [], _∷_, map}
 use lib.Dec.{leb, ltb, eqb}
+use lib.ListN.{length, getD, set}
 use Rattle.model.specs.Lists.{upFrom, all}
-use Rattle.model.specs.Table.{Kind, Range, span, pattern, Form, single, perValue, fixed, ValueBin, Table}
+use Rattle.model.specs.Table.{Kind, cover, ignore, illegal, default, Range, span, pattern, Form, single, perValue, fixed, ValueBin}
 use Rattle.model.specs.Counters.{autoCount, productOf}
 use Rattle.model.specs.Format.{byte, u16, kindFrom, formFrom, pointRecord}
-use Rattle.model.specs.Ranges.{rangeCount, countersOf, coversOf, valueTotal, autoTotal, countersAt, coversAt}
-use Rattle.model.specs.Raw.{recordCount, rangesAt, rawTable}
-use Rattle.limits.specs.Walks.{walkSum, after}
+use Rattle.model.specs.Ranges.{rangeCount, countersOf, coversOf, transitionsOf}
+use Rattle.model.specs.Raw.{rangesAt}
+
+-- ---- entries: a number for each point
+
+-- x more in the entry of point p
+abbrev pub more : ℕ → ℕ → List ℕ → List ℕ
+more p x l = set l p (getD l p 0 + x)
+
+-- each element adds a term to its point's entry
+unfoldable pub added : {A : Type 0} → (A → ℕ) → (A → ℕ) → List A → List ℕ → List ℕ
+added at f [] l = l
+added at f (x ∷ xs) l = added at f xs (more (at x) (f x) l)
+
+-- there are 16, of at most k
+pub record Entries (k : ℕ) (l : List ℕ) : Type 0 where
+  pub count : length l ≡ 16
+  pub most : (p : ℕ) → getD l p 0 ≤ k
+
+abbrev pub entry : List ℕ → ℕ → ℕ
+entry l p = getD l p 0
+
+-- a place by itself
+abbrev pub here : ℕ → ℕ
+here at = at
 
 -- ---- value bins
 
@@ -24,8 +48,9 @@ spannedBy single rs = true
 spannedBy perValue rs = all isSpan rs
 spannedBy (fixed n) rs = true
 
-abbrev pub spanned : ValueBin → Bool
-spanned v = spannedBy (v .form) (v .ranges)
+-- a bin of one of n points, whose ranges are spans where there is a bin per value
+abbrev pub countable : ℕ → ValueBin → Bool
+countable n v = ltb (v .point) n && spannedBy (v .form) (v .ranges)
 
 -- the form and the ranges of the bin at b, whose ranges stand from r on
 abbrev pub formAt : List ℕ → ℕ → Form
@@ -34,44 +59,56 @@ formAt s b = formFrom (byte s (b + 2)) (u16 s (b + 3))
 abbrev pub ownRanges : List ℕ → ℕ → ℕ → List Range
 ownRanges s b r = rangesAt s r (u16 s (b + 6))
 
--- what a bin that stands for n adds: to the counters, or to the cover bins only
-abbrev pub termOf : Bool → Kind → ℕ → ℕ
-termOf covers kind n = cond covers (coversOf kind n) (countersOf kind n)
+abbrev pub binPoint : ValueBin → ℕ
+binPoint v = v .point
 
--- what the bin adds at point p, whose record stands at `point`
-abbrev pub binTerm : List ℕ → ℕ → ℕ → Bool → ℕ × ℕ → ℕ
-binTerm s point p covers (b, r) =
-    cond (eqb (byte s b) p) (termOf covers (kindFrom (byte s (b + 1))) (rangeCount (pointRecord s point) (formAt s b) (ownRanges s b r))) 0
+-- the cover bins that it stands for; the points' records stand from `points` on
+abbrev pub binCovers : List ℕ → ℕ → ValueBin → ℕ
+binCovers s points v = coversOf (v .kind) (rangeCount (pointRecord s (points + 11 * v .point)) (v .form) (v .ranges))
 
-abbrev pub nextBin : List ℕ → ℕ × ℕ → ℕ × ℕ
-nextBin s (b, r) = (b + 8, r + 17 * u16 s (b + 6))
+-- its own counter, if it is an illegal or a default bin
+abbrev pub binSingles : ValueBin → ℕ
+binSingles v = countersOf (v .kind) 0
 
--- ---- bins of a point and a kind
+-- 1 for a bin that bars auto bins
+abbrev pub barsOf : Kind → ℕ
+barsOf cover = 1
+barsOf ignore = 0
+barsOf illegal = 0
+barsOf default = 1
 
--- 1 where the record is point p's and of the kind v; a kind above 3 is as 3
-abbrev pub isPair : List ℕ → ℕ → ℕ → ℕ → ℕ
-isPair s p v at = cond (eqb (byte s at) p && eqb (min 3 (byte s (at + 1))) v) 1 0
+abbrev pub binBars : ValueBin → ℕ
+binBars v = barsOf (v .kind)
 
--- the auto bins of point p, by n value bins and m transition bins
-abbrev pub barring : List ℕ → ℕ → ℕ → ℕ → ℕ → ℕ → ℕ
-barring s p bins n transitions m =
-    walkSum 0 (isPair s p 0) (after 8) bins n + walkSum 0 (isPair s p 3) (after 8) bins n + walkSum 0 (isPair s p 0) (after 4) transitions m
+-- ---- transition bins, by their places
 
-abbrev pub autoAt : List ℕ → ℕ → ℕ → ℕ → ℕ → ℕ → ℕ → ℕ
-autoAt s point p bins n transitions m = cond (eqb (barring s p bins n transitions m) 0) (autoCount (pointRecord s point)) 0
+abbrev pub placePoint : List ℕ → ℕ → ℕ
+placePoint s at = byte s at
 
--- what value bins and auto bins add
-unfoldable pub valuePart : Table → ℕ → Bool → ℕ
-valuePart t p covers = valueTotal (termOf covers) t p + autoTotal t p
+-- it is one of n points
+abbrev pub pointBelow : List ℕ → ℕ → ℕ → Bool
+pointBelow s n at = ltb (byte s at) n
 
--- ---- limits
+abbrev pub placeSingles : List ℕ → ℕ → ℕ
+placeSingles s at = transitionsOf (kindFrom (byte s (at + 1)))
 
--- a place by itself
-abbrev pub here : ℕ → ℕ
-here at = at
+abbrev pub placeBars : List ℕ → ℕ → ℕ
+placeBars s at = coversOf (kindFrom (byte s (at + 1))) 1
 
-abbrev pub pointFits : Table → ℕ → Bool
-pointFits t p = leb (countersAt t p) 256
+-- ---- points
+
+-- the auto bins of point p, by the bins that bar them
+abbrev pub autosAt : List ℕ → ℕ → List ℕ → ℕ → ℕ
+autosAt s points bars p = cond (eqb (getD bars p 0) 0) (autoCount (pointRecord s (points + 11 * p))) 0
+
+-- the counters of point p: cover bins and single ones
+abbrev pub countersIn : List ℕ → List ℕ → ℕ → ℕ
+countersIn covers singles p = getD covers p 0 + getD singles p 0
+
+abbrev pub pointFits : List ℕ → List ℕ → ℕ → Bool
+pointFits covers singles p = leb (countersIn covers singles p) 256
+
+-- ---- crosses
 
 -- products over 1,024 are not told apart
 abbrev pub capped : ℕ → ℕ
@@ -84,15 +121,9 @@ crossPoint s c i = byte s (c + 1 + i)
 abbrev pub pointsFrom : List ℕ → ℕ → ℕ → ℕ → List ℕ
 pointsFrom s c i n = map (crossPoint s c) (upFrom i n)
 
-abbrev pub below : ℕ → ℕ → Bool
-below n p = ltb p n
+-- the products of the cross at c, by the cover bins of each point
+unfoldable pub crossProducts : List ℕ → List ℕ → ℕ → ℕ
+crossProducts covers s c = capped (productOf (entry covers) (pointsFrom s c 0 (byte s c)))
 
--- the points of the cross at c are points of the table
-abbrev pub namesPoints : List ℕ → ℕ → Bool
-namesPoints s c = all (below (recordCount s 0)) (pointsFrom s c 0 (byte s c))
-
-unfoldable pub crossProducts : List ℕ → ℕ → ℕ
-crossProducts s c = capped (productOf (coversAt (rawTable s)) (pointsFrom s c 0 (byte s c)))
-
-abbrev pub crossFits : List ℕ → ℕ → Bool
-crossFits s c = leb (crossProducts s c) 1024
+abbrev pub crossFits : List ℕ → List ℕ → ℕ → Bool
+crossFits covers s c = leb (crossProducts covers s c) 1024

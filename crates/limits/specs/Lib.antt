@@ -1,2 +1,4 @@
 pub mod Walks
 pub mod Bins
+pub mod Spans
+pub mod Tallies

@@ -1,97 +1,17 @@
-// How many bins a listed value bin stands for, and what the value bins add to a point's counters. Values are not listed.
-use ranges::lowest;
-use ranges::value_at;
+// What the value bins add to the entries of their points, in one pass.
+use crate::entries::add;
+use crate::values::per_value;
 use words::bytes::byte;
 use words::bytes::read2;
-use words::bytes::read8;
 ghost use mathlib.Core.Path.{_≡_};
 ghost use mathlib.Core.Bool.{true};
-ghost use Prim.Native.Nat.{_*_, _≤_, min, max};
-ghost use lib.ListN.{length};
+ghost use Prim.Native.Nat.{_+_, _*_, _≤_, _<_};
 ghost use Rattle.model.specs.Lists.{all};
-ghost use Rattle.model.specs.Table.{span};
-ghost use Rattle.model.specs.Format.{kindFrom, pointRecord, rangeRecord};
-ghost use Rattle.model.specs.Ranges.{nextInRange, nextIn, ascending, firstValues, rangeCount};
-ghost use Rattle.model.specs.Raw.{rangesAt, binsAt};
-ghost use Rattle.ranges.specs.Types.{Wide};
-ghost use Rattle.limits.specs.Walks.{walkSum};
-ghost use Rattle.limits.specs.Bins.{isSpan, spannedBy, spanned, formAt, ownRanges, termOf, binTerm, nextBin};
-
-pub fn least(a: u64, b: u64) -> u64
-    ensures { λ r. ⌜ r ≡ min a b ⌝ }
-{
-    if a < b { a } else { b }
-}
-
-fn larger(a: u64, b: u64) -> u64
-    ensures { λ r. ⌜ r ≡ max a b ⌝ }
-{
-    if a < b { b } else { a }
-}
-
-// The least value of a span from x up, or 2^33.
-fn next_in_span(lo: u64, hi: u64, x: u64) -> u64
-    ensures { λ r. ⌜ r ≡ nextInRange (span lo hi) x ⌝ }
-{
-    let from = larger(lo, x);
-    if x <= hi { from } else { 8589934592 }
-}
-
-// The same of the range at at, which is a span.
-fn next_at(t: &[u8], at: usize, x: u64) -> u64
-    requires { ⌜ (at ≤ 2000000000) × (isSpan (rangeRecord (now t) at) ≡ true) ⌝ }
-    ensures { λ r. ⌜ r ≡ nextInRange (rangeRecord (now (t .entry)) at) x ⌝ }
-{
-    let lo = value_at(read8(t, at + 1));
-    let hi = value_at(read8(t, at + 9));
-    next_in_span(lo, hi, x)
-}
-
-// The same of n ranges from start on.
-fn next_in(t: &[u8], start: usize, n: usize, x: u64) -> u64
-    requires { ⌜ (start ≤ 1000000000) × (n ≤ 65535) × (all isSpan (rangesAt (now t) start n) ≡ true) ⌝ }
-    ensures { λ r. ⌜ (r ≡ nextIn (rangesAt (now (t .entry)) start n) x) × (r ≤ 8589934592) ⌝ }
-{
-    let mut best: u64 = 8589934592;
-    let mut at = start;
-    let mut i = 0;
-    while i < n {
-        let v = next_at(t, at, x);
-        best = least(best, v);
-        at += 17;
-        i += 1;
-    }
-    best
-}
-
-// How many values from low up n ranges have; 257 if there are more.
-fn value_count(t: &[u8], start: usize, n: usize, low: u64) -> usize
-    requires { ⌜ (start ≤ 1000000000) × (n ≤ 65535) × (low ≤ 8589934592) × (all isSpan (rangesAt (now t) start n) ≡ true) ⌝ }
-    ensures { λ r. ⌜ (r ≡ length (ascending 257 (rangesAt (now (t .entry)) start n) low)) × (r ≤ 257) ⌝ }
-{
-    let mut x = low;
-    let mut count: usize = 0;
-    while count < 257 {
-        let v = next_in(t, start, n, x);
-        if v >= 8589934592 {
-            return count;
-        }
-        x = v + 1;
-        count += 1;
-    }
-    count
-}
-
-// The same from the lowest value of the type of the point whose record is at point.
-fn per_value(t: &[u8], point: usize, start: usize, n: usize) -> usize
-    requires { ⌜ (point ≤ 1000000000) × (start ≤ 1000000000) × (n ≤ 65535) × (all isSpan (rangesAt (now t) start n) ≡ true) × Wide (now t) point ⌝ }
-    ensures { λ r. ⌜ (r ≡ length (firstValues (pointRecord (now (t .entry)) point) (rangesAt (now (t .entry)) start n))) × (r ≤ 257) ⌝ }
-{
-    let width = byte(t, point);
-    let signed = byte(t, point + 1);
-    let low = lowest(width, signed == 1);
-    value_count(t, start, n, low)
-}
+ghost use Rattle.model.specs.Format.{byte, kindFrom, pointRecord};
+ghost use Rattle.model.specs.Ranges.{rangeCount, coversOf, countersOf};
+ghost use Rattle.model.specs.Raw.{binAt, binsAt};
+ghost use Rattle.ranges.specs.Types.{Wide, AllWide};
+ghost use Rattle.limits.specs.Bins.{spannedBy, formAt, ownRanges, more, added, Entries, countable, binPoint, binCovers, binSingles, barsOf, binBars};
 
 // How many bins the value bin at b stands for, whose ranges are from r on; 257 if a bin per value makes more.
 fn bins_of(t: &[u8], point: usize, b: usize, r: usize) -> usize
@@ -111,58 +31,86 @@ fn bins_of(t: &[u8], point: usize, b: usize, r: usize) -> usize
     number as usize
 }
 
-// What a bin that is no cover bin adds.
-fn kind_term(kind: u8, covers: bool) -> usize
-    ensures { λ r. ⌜ (r ≡ termOf covers (kindFrom kind) 0) × (r ≤ 1) ⌝ }
+// The cover bins of a bin of some kind.
+fn covers_of(t: &[u8], kind: u8, point: usize, b: usize, r: usize) -> u32
+    requires { ⌜ (point ≤ 1000000000) × (b ≤ 1000000000) × (r ≤ 1000000000) × Wide (now t) point ⌝ }
+    requires { ⌜ spannedBy (formAt (now t) b) (ownRanges (now t) b r) ≡ true ⌝ }
+    ensures { λ n. ⌜ (n ≡ coversOf (kindFrom kind) (rangeCount (pointRecord (now (t .entry)) point) (formAt (now (t .entry)) b) (ownRanges (now (t .entry)) b r))) × (n ≤ 65535) ⌝ }
 {
-    if covers {
+    if kind != 0 {
         return 0;
     }
+    bins_of(t, point, b, r) as u32
+}
+
+// The counter of a bin that is no cover bin.
+fn single_of(kind: u8) -> u32
+    ensures { λ r. ⌜ (r ≡ countersOf (kindFrom kind) 0) × (r ≤ 1) ⌝ }
+{
     if kind < 2 { 0 } else { 1 }
 }
 
-// What the value bin at b adds at point p, whose record is at point: to the counters, or to the cover bins only.
-fn bin_term(t: &[u8], point: usize, p: usize, b: usize, r: usize, covers: bool) -> usize
-    requires { ⌜ (point ≤ 1000000000) × (b ≤ 1000000000) × (r ≤ 1000000000) × Wide (now t) point ⌝ }
-    requires { ⌜ spannedBy (formAt (now t) b) (ownRanges (now t) b r) ≡ true ⌝ }
-    ensures { λ n. ⌜ (n ≡ binTerm (now (t .entry)) point p covers (b, r)) × (n ≤ 65535) ⌝ }
+// 1 for a bin that bars auto bins.
+fn bar_of(kind: u8) -> u32
+    ensures { λ r. ⌜ (r ≡ barsOf (kindFrom kind)) × (r ≤ 1) ⌝ }
 {
-    let own = byte(t, b);
-    let kind = byte(t, b + 1);
-    if own as usize != p {
-        return 0;
-    }
-    if kind == 0 {
-        return bins_of(t, point, b, r);
-    }
-    kind_term(kind, covers)
+    if (kind == 1) | (kind == 2) { 0 } else { 1 }
 }
 
-// What n value bins from bins on add, whose ranges are from ranges on.
-pub fn value_total(
+// The value bin at b, whose ranges are from r on.
+fn add_bin(
+    covers: &mut [u32],
+    singles: &mut [u32],
+    bars: &mut [u32],
     t: &[u8],
-    point: usize,
-    p: usize,
+    points: usize,
+    b: usize,
+    r: usize,
+)
+    requires { ⌜ (points ≤ 16777216) × (b ≤ 1000000000) × (r ≤ 1000000000) × (byte (now t) b < 16) × Wide (now t) (points + 11 * byte (now t) b) ⌝ }
+    requires { ⌜ spannedBy (formAt (now t) b) (ownRanges (now t) b r) ≡ true ⌝ }
+    requires { ⌜ Entries 50000000 (now covers) × Entries 1000 (now singles) × Entries 1000 (now bars) ⌝ }
+    ensures { λ _. ⌜ now (covers .exit) ≡ more (byte (now (t .entry)) b) (binCovers (now (t .entry)) points (binAt (now (t .entry)) b r)) (now (covers .entry)) ⌝ }
+    ensures { λ _. ⌜ now (singles .exit) ≡ more (byte (now (t .entry)) b) (binSingles (binAt (now (t .entry)) b r)) (now (singles .entry)) ⌝ }
+    ensures { λ _. ⌜ now (bars .exit) ≡ more (byte (now (t .entry)) b) (binBars (binAt (now (t .entry)) b r)) (now (bars .entry)) ⌝ }
+    ensures { λ _. ⌜ binCovers (now (t .entry)) points (binAt (now (t .entry)) b r) ≤ 65535 ⌝ }
+{
+    let p = byte(t, b) as usize;
+    let kind = byte(t, b + 1);
+    let n = covers_of(t, kind, points + 11 * p, b, r);
+    add(covers, p, n);
+    add(singles, p, single_of(kind));
+    add(bars, p, bar_of(kind));
+}
+
+// n value bins from bins on, whose ranges are from ranges on.
+pub fn add_bins(
+    covers: &mut [u32],
+    singles: &mut [u32],
+    bars: &mut [u32],
+    t: &[u8],
+    points: usize,
+    np: usize,
     bins: usize,
     ranges: usize,
     n: usize,
-    covers: bool,
-) -> usize
-    requires { ⌜ (point ≤ 1000000000) × (bins ≤ 16777216) × (ranges ≤ 16777216) × (n ≤ 512) × Wide (now t) point ⌝ }
-    requires { ⌜ all spanned (binsAt (now t) bins ranges n) ≡ true ⌝ }
-    ensures { λ r. ⌜ (r ≡ walkSum 0 (binTerm (now (t .entry)) point p covers) (nextBin (now (t .entry))) (bins, ranges) n) × (r ≤ 65535 * n) ⌝ }
+)
+    requires { ⌜ (points ≤ 16777216) × (np ≤ 16) × (bins ≤ 16777216) × (ranges ≤ 16777216) × (n ≤ 512) × AllWide (now t) points np ⌝ }
+    requires { ⌜ all (countable np) (binsAt (now t) bins ranges n) ≡ true ⌝ }
+    requires { ⌜ Entries 0 (now covers) × Entries 0 (now singles) × Entries 0 (now bars) ⌝ }
+    ensures { λ _. ⌜ now (covers .exit) ≡ added binPoint (binCovers (now (t .entry)) points) (binsAt (now (t .entry)) bins ranges n) (now (covers .entry)) ⌝ }
+    ensures { λ _. ⌜ now (singles .exit) ≡ added binPoint binSingles (binsAt (now (t .entry)) bins ranges n) (now (singles .entry)) ⌝ }
+    ensures { λ _. ⌜ now (bars .exit) ≡ added binPoint binBars (binsAt (now (t .entry)) bins ranges n) (now (bars .entry)) ⌝ }
+    ensures { λ _. ⌜ Entries (65535 * n) (now (covers .exit)) × Entries n (now (singles .exit)) × Entries n (now (bars .exit)) ⌝ }
 {
-    let mut sum: usize = 0;
     let mut b = bins;
     let mut r = ranges;
     let mut i = 0;
     while i < n {
-        let found = bin_term(t, point, p, b, r, covers);
+        add_bin(covers, singles, bars, t, points, b, r);
         let owned = read2(t, b + 6);
-        sum += found;
         b += 8;
         r += 17 * owned as usize;
         i += 1;
     }
-    sum
 }

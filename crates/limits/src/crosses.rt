@@ -1,13 +1,12 @@
-// The products of crosses.
-use crate::points::covers_at;
+// The products of crosses, by the cover bins of each point.
+use crate::entries::entry;
 use words::bytes::byte;
 ghost use mathlib.Core.Path.{_≡_};
-ghost use mathlib.Core.Bool.{true};
 ghost use Prim.Native.Nat.{_*_, _≤_};
 ghost use Rattle.model.specs.Lists.{all};
-ghost use Rattle.model.specs.Raw.{rows, recordsPlace, recordCount};
-ghost use Rattle.limits.specs.Walks.{Readable, walkSum, after};
-ghost use Rattle.limits.specs.Bins.{here, capped, namesPoints, crossProducts, crossFits};
+ghost use Rattle.model.specs.Raw.{rows};
+ghost use Rattle.limits.specs.Walks.{walkSum, after};
+ghost use Rattle.limits.specs.Bins.{here, capped, crossProducts, crossFits};
 
 fn cap(n: usize) -> usize
     ensures { λ r. ⌜ r ≡ capped n ⌝ }
@@ -16,33 +15,31 @@ fn cap(n: usize) -> usize
 }
 
 // The products of the cross at c; 1025 if there are more than 1,024.
-fn cross_products(t: &[u8], c: usize) -> usize
-    requires { ⌜ Readable (now t) ⌝ }
-    requires { ⌜ (c ≤ 1000000000) × (namesPoints (now t) c ≡ true) ⌝ }
-    ensures { λ r. ⌜ (r ≡ crossProducts (now (t .entry)) c) × (r ≤ 1025) ⌝ }
+fn cross_products(covers: &[u32], t: &[u8], c: usize) -> usize
+    requires { ⌜ c ≤ 1000000000 ⌝ }
+    ensures { λ r. ⌜ (r ≡ crossProducts (now (covers .entry)) (now (t .entry)) c) × (r ≤ 1025) ⌝ }
 {
     let n = byte(t, c) as usize;
     let mut product: usize = 1;
     let mut i = 0;
     while i < n {
         let p = byte(t, c + 1 + i);
-        let covers = covers_at(t, p as usize);
-        product = cap(product * covers);
+        let found = entry(covers, p as usize) as usize;
+        product = cap(product * found);
         i += 1;
     }
     product
 }
 
 // No cross has more than 1,024 products.
-pub fn crosses_within(t: &[u8], start: usize, n: usize) -> bool
-    requires { ⌜ Readable (now t) ⌝ }
-    requires { ⌜ (start ≡ recordsPlace (now t) 7) × (n ≡ recordCount (now t) 7) × (start ≤ 16777216) × (n ≤ 65535) ⌝ }
-    ensures { λ r. ⌜ r ≡ all (crossFits (now (t .entry))) (rows here 13 start n) ⌝ }
+pub fn crosses_within(covers: &[u32], t: &[u8], start: usize, n: usize) -> bool
+    requires { ⌜ (start ≤ 16777216) × (n ≤ 65535) ⌝ }
+    ensures { λ r. ⌜ r ≡ all (crossFits (now (covers .entry)) (now (t .entry))) (rows here 13 start n) ⌝ }
 {
     let mut at = start;
     let mut i = 0;
     while i < n {
-        let found = cross_products(t, at);
+        let found = cross_products(covers, t, at);
         if found > 1024 {
             return false;
         }
@@ -53,16 +50,15 @@ pub fn crosses_within(t: &[u8], start: usize, n: usize) -> bool
 }
 
 // The products of all crosses.
-pub fn product_sum(t: &[u8], start: usize, n: usize) -> usize
-    requires { ⌜ Readable (now t) ⌝ }
-    requires { ⌜ (start ≡ recordsPlace (now t) 7) × (n ≡ recordCount (now t) 7) × (start ≤ 16777216) × (n ≤ 65535) ⌝ }
-    ensures { λ r. ⌜ (r ≡ walkSum 0 (crossProducts (now (t .entry))) (after 13) start n) × (r ≤ 1025 * n) ⌝ }
+pub fn product_sum(covers: &[u32], t: &[u8], start: usize, n: usize) -> usize
+    requires { ⌜ (start ≤ 16777216) × (n ≤ 65535) ⌝ }
+    ensures { λ r. ⌜ (r ≡ walkSum 0 (crossProducts (now (covers .entry)) (now (t .entry))) (after 13) start n) × (r ≤ 1025 * n) ⌝ }
 {
     let mut sum: usize = 0;
     let mut at = start;
     let mut i = 0;
     while i < n {
-        let found = cross_products(t, at);
+        let found = cross_products(covers, t, at);
         sum += found;
         at += 13;
         i += 1;

@@ -1,59 +1,84 @@
-// Refusal 6 and measuring: the counters and the products of a table are counted, never listed.
+// Refusal 6 and measuring: the counters and the products of a table are counted in one pass, never listed.
+pub mod answer;
+mod bins;
+mod crosses;
+mod entries;
+mod kinds;
+mod points;
+mod sums;
+mod transitions;
+mod values;
+
+use crate::answer::Tally;
 use crate::crosses::crosses_within;
 use crate::crosses::product_sum;
 use crate::kinds::cross_kinds;
 use crate::kinds::mosts;
+use crate::points::count_points;
 use crate::points::point_sum;
 use crate::points::points_within;
 use crate::sums::count_bytes;
+use layout::Layout;
 use layout::layout_of;
 ghost use mathlib.Core.Path.{_≡_};
-ghost use mathlib.Core.Bool.{true};
 ghost use Rattle.model.specs.Counters.{withinLimits};
 ghost use Rattle.model.specs.Raw.{rawTable};
-ghost use Rattle.model.specs.Register.{wordsNeeded, illegalTotal};
+ghost use Rattle.model.specs.Register.{illegalTotal};
+ghost use Rattle.layout.specs.Places.{layoutOf, Small};
 ghost use Rattle.limits.specs.Walks.{Readable};
-
-mod bins;
-mod crosses;
-mod kinds;
-mod points;
-mod sums;
+ghost use Rattle.limits.specs.Tallies.{Tallied, Counted, CountersOf};
 
 // At most 256 counters at a point, at most 1,024 products in a cross.
-pub fn within_limits(t: &[u8]) -> bool
-    requires { ⌜ Readable (now t) ⌝ }
+fn within(covers: &[u32], singles: &[u32], t: &[u8], l: Layout) -> bool
+    requires { ⌜ Readable (now t) × (l ≡ layoutOf (now t)) × Small l ⌝ }
+    requires { ⌜ Counted (now t) (now covers) (now singles) ⌝ }
     ensures { λ r. ⌜ r ≡ withinLimits (rawTable (now (t .entry))) ⌝ }
 {
-    let l = layout_of(t);
-    let points = points_within(t, l.point_count);
-    let crosses = crosses_within(t, l.crosses, l.cross_count);
+    let points = points_within(covers, singles, l.point_count);
+    let crosses = crosses_within(covers, t, l.crosses, l.cross_count);
     points & crosses
 }
 
-// The words of a register.
-pub fn words_needed(t: &[u8]) -> usize
-    requires { ⌜ Readable (now t) ⌝ }
-    requires { ⌜ withinLimits (rawTable (now t)) ≡ true ⌝ }
-    ensures { λ r. ⌜ r ≡ wordsNeeded (rawTable (now (t .entry))) ⌝ }
+// All counters, if the limits hold.
+fn counter_total(covers: &[u32], singles: &[u32], t: &[u8], l: Layout) -> usize
+    requires { ⌜ Readable (now t) × (l ≡ layoutOf (now t)) × Small l ⌝ }
+    requires { ⌜ Counted (now t) (now covers) (now singles) ⌝ }
+    ensures { λ r. ⌜ CountersOf (rawTable (now (t .entry))) r ⌝ }
 {
-    let l = layout_of(t);
-    let points = point_sum(t, l.point_count);
-    let covers = cross_kinds(t, l.crosses, l.cross_bins, l.cross_count, 0);
+    let points = point_sum(covers, singles, l.point_count);
+    let bins = cross_kinds(t, l.crosses, l.cross_bins, l.cross_count, 0);
     let illegals = cross_kinds(t, l.crosses, l.cross_bins, l.cross_count, 2);
-    let products = product_sum(t, l.crosses, l.cross_count);
-    let runs = mosts(t, l.transitions, l.sequences, l.steps, l.transition_count);
-    2 + (points + (covers + illegals + products)) + l.point_count + runs
+    let products = product_sum(covers, t, l.crosses, l.cross_count);
+    points + (bins + illegals + products)
 }
 
 // The illegal counters: the words of a report.
-pub fn illegal_total(t: &[u8]) -> usize
-    requires { ⌜ Readable (now t) ⌝ }
+fn illegal_total(t: &[u8], l: Layout) -> usize
+    requires { ⌜ Readable (now t) × (l ≡ layoutOf (now t)) × Small l ⌝ }
     ensures { λ r. ⌜ r ≡ illegalTotal (rawTable (now (t .entry))) ⌝ }
 {
-    let l = layout_of(t);
     let values = count_bytes(t, l.bins + 1, 8, l.bin_count, 2);
     let transitions = count_bytes(t, l.transitions + 1, 4, l.transition_count, 2);
     let crosses = cross_kinds(t, l.crosses, l.cross_bins, l.cross_count, 2);
     values + transitions + crosses
+}
+
+pub fn tally(t: &[u8]) -> Tally
+    requires { ⌜ Readable (now t) ⌝ }
+    ensures { λ r. ⌜ Tallied (rawTable (now (t .entry))) r ⌝ }
+{
+    let l = layout_of(t);
+    let mut covers: [u32; 16] = [0; 16];
+    let mut singles: [u32; 16] = [0; 16];
+    count_points(&mut covers, &mut singles, t, l);
+    let fits = within(&covers, &singles, t, l);
+    let counters = counter_total(&covers, &singles, t, l);
+    let runs = mosts(t, l.transitions, l.sequences, l.steps, l.transition_count);
+    let illegals = illegal_total(t, l);
+    Tally {
+        fits: fits,
+        counters: counters,
+        runs: runs,
+        illegals: illegals,
+    }
 }

@@ -99,15 +99,20 @@ module _ (s : List ℕ) (t : Table) (end : ℕ) (l : Layout s t end) (within : w
       let c = size-concat length refl length-append (crossCounters t) cs in
       omega (arith, point-counters, cross-counters)
 
-  -- 12,416 counters, 16 points, 64 sequences of at most 32 readings
-  pub words-few : wordsNeeded t ≤ 14482
-  unfolding wordsNeeded
-  words-few =
+  -- 64 sequences of at most 32 readings
+  pub runs-few : runTotal t ≤ 2048
+  runs-few =
       let a = run-total t in
       let b = bin-runs (t .transitionBins) (layout-well-formed s t end l .sequences) in
       let c = sequences-access s t end l .0 .high in
-      let d = points-access s t end l .0 .high in
-      omega (arith, counters-few)
+      omega arith
+
+  pub points-few : pointTotal t ≤ 16
+  points-few = points-access s t end l .0 .high
+
+  pub words-few : wordsNeeded t ≤ 14482
+  unfolding wordsNeeded
+  words-few = omega (arith, counters-few, runs-few, points-few)
 
   pub illegals-few : illegalTotal t ≤ 12416
   unfolding illegalTotal

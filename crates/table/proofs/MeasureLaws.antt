@@ -1,30 +1,32 @@
--- What a verdict tells of measuring the table, and of its sections.
+-- What a verdict tells of the table's facts, of measuring it, and of its sections.
 -- Assumes nothing.
 use Prim.Native.Nat.{ℕ, _+_, _-_, _≤_}
 use mathlib.Core.Path.{_≡_, refl, sym, ap, ap₂, _∙_, subst}
 use mathlib.Core.Bool.{true}
 use mathlib.Core.List.{List, []}
 use native.Mathlib.Omega.{arith}
-use lib.ListN.{length, take, drop}
+use lib.ListN.{length}
 use Rattle.model.specs.Table.{Table}
 use Rattle.model.specs.Counters.{withinLimits}
-use Rattle.model.specs.Format.{got, readTable, Fault, Outcome, rejected, decoded, decode, numberOf, sectionOf}
-use Rattle.model.specs.Raw.{countPlace, rawTable}
-use Rattle.model.specs.Register.{wordsNeeded, illegalTotal, measured, section}
+use Rattle.model.specs.Format.{u16, FaultClass, tooLong, cut, count, value, unused, field, disagreement, leftover, limits, Fault, Outcome, rejected, decoded, decode, numberOf, sectionOf}
+use Rattle.model.specs.Raw.{countPlace, recordCount, rawTable}
+use Rattle.model.specs.Register.{counterTotal, pointTotal, runTotal, wordsNeeded, illegalTotal, measured, section}
 use Rattle.model.specs.Register as Model
 use Rattle.model.proofs.Sections.{acceptance}
 use Rattle.model.proofs.RawExact.{raw-exact, sections-whole}
-use Rattle.model.proofs.MeasureBounds.{words-few, illegals-few}
-use Rattle.words.specs.Verdicts.{codeOf}
+use Rattle.model.proofs.MeasureBounds.{points-few, counters-few, runs-few, illegals-few}
 use Rattle.words.specs.declared.verdicts.Verdict.{Verdict}
-use Rattle.limits.specs.Walks.{Readable}
+use Rattle.limits.specs.declared.answer.Tally.{Tally}
+use Rattle.limits.specs.Tallies.{Tallied}
+use Rattle.limits.proofs.PointLaws.{points-length}
 use Rattle.reader.specs.declared.Part.{Part}
 use Rattle.reader.specs.Parts.{sectionPart, sectionBytes}
 use Rattle.reader.proofs.Front.{section-exact, section-within}
 use Rattle.reader.proofs.Laws.{part-ordered, part-inside}
+use Rattle.table.specs.declared.answer.Facts.{Facts}
 use Rattle.table.specs.declared.answer.Measure.{Measure}
 use Rattle.table.specs.declared.answer.Place.{Place}
-use Rattle.table.specs.Check.{checked, numberFor, measureOf, startOf, sectionStart, SectionAt}
+use Rattle.table.specs.Check.{checked, numberFor, factsFrom, factsOf, Few, measureOf, startOf, sectionStart, SectionAt}
 use Rattle.table.proofs.Outcome.{number-of-code, accepted-outcome, refused-outcome}
 
 abbrev pub answer : ℕ → ℕ → ℕ → Measure
@@ -33,27 +35,72 @@ answer number words illegals = record { number = number; words = words; «illega
 abbrev pub place : ℕ → ℕ → ℕ → Place
 place refusal start len = record { refusal = refusal; start = start; len = len }
 
+abbrev pub facts : ℕ → ℕ → ℕ → ℕ → ℕ → Facts
+facts number points counters runs illegals = record { number = number; points = points; counters = counters; runs = runs; illegals = illegals }
+
+-- ---- the facts of a table
+
+few-facts : (s : List ℕ) → Few (factsOf s)
+unfolding factsOf
+few-facts s = go (decode s) refl
+  where
+    go : (o : Outcome) → decode s ≡ o → Few (factsFrom o)
+    go (rejected f) d = record { points = omega arith; counters = omega arith; runs = omega arith; illegals = omega arith }
+    go (decoded t) d =
+        let a = acceptance s t d in
+        let l = a .layout in
+        let w = a .limited in
+        record { points = points-few s t (length s) l w; counters = counters-few s t (length s) l w; runs = runs-few s t (length s) l w; illegals = illegals-few s t (length s) l w }
+
+pub few-of : (s : List ℕ) (f : Facts) → f ≡ factsOf s → Few f
+few-of s f e = subst Few (sym e) (few-facts s)
+
+number-some : (c : FaultClass) → numberOf c ≡ 0 → ⊥
+number-some tooLong e = omega arith
+number-some cut e = omega arith
+number-some count e = omega arith
+number-some value e = omega arith
+number-some unused e = omega arith
+number-some field e = omega arith
+number-some disagreement e = omega arith
+number-some leftover e = omega arith
+number-some limits e = omega arith
+
+-- measuring, by the facts
+module _ (s : List ℕ) (f : Facts) (e : f ≡ factsOf s) where
+  pub measured-whole : f .number ≡ 0 → answer 0 (2 + f .counters + f .points + f .runs) (f .illegals) ≡ measureOf s
+  unfolding Model.measure factsOf wordsNeeded
+  measured-whole z = go (decode s) e
+    where
+      go : (o : Outcome) → f ≡ factsFrom o → answer 0 (2 + f .counters + f .points + f .runs) (f .illegals) ≡ answer (measured o .number) (measured o .words) (measured o .illegals)
+      go (rejected x) d = absurd (number-some (x .class) (sym (ap (λ (f : Facts). f .number) d) ∙ z))
+      go (decoded t) d = ap (λ (f : Facts). answer 0 (2 + f .counters + f .points + f .runs) (f .illegals)) d
+
+  pub measured-refused : (f .number ≡ 0 → ⊥) → answer (f .number) 0 0 ≡ measureOf s
+  unfolding Model.measure factsOf
+  measured-refused z = go (decode s) e
+    where
+      go : (o : Outcome) → f ≡ factsFrom o → answer (f .number) 0 0 ≡ answer (measured o .number) (measured o .words) (measured o .illegals)
+      go (rejected x) d = ap (λ (f : Facts). answer (f .number) 0 0) d
+      go (decoded t) d = absurd (z (ap (λ (f : Facts). f .number) d))
+
+-- ---- what a verdict tells
+
 module _ (s : List ℕ) (v : Verdict) (e : v ≡ checked s) where
+  points-number : u16 s 0 ≡ pointTotal (rawTable s)
+  unfolding recordCount countPlace
+  points-number = sym (points-length s)
+
   module _ (z : v .class ≡ 0) where
     accepted : (P : Type 0) → ((t : Table) → decode s ≡ decoded t → t ≡ rawTable s → P) → P
     accepted P k = accepted-outcome s v e z P (λ t d. k t d (raw-exact s t d))
 
-    pub readable : Readable s
-    readable = accepted (Readable s) λ t d r. let a = acceptance s t d in (a .read ∙ ap (λ (x : Table). got x (length s)) r, a .short)
-
-    pub limited : withinLimits (rawTable s) ≡ true
-    limited = accepted (withinLimits (rawTable s) ≡ true) λ t d r. ap withinLimits (sym r) ∙ acceptance s t d .limited
-
-    pub few : (wordsNeeded (rawTable s) ≤ 14482) × (illegalTotal (rawTable s) ≤ 12416)
-    few = accepted ((wordsNeeded (rawTable s) ≤ 14482) × (illegalTotal (rawTable s) ≤ 12416)) λ t d r.
-        let a = acceptance s t d in
-        subst (λ (x : Table). (wordsNeeded x ≤ 14482) × (illegalTotal x ≤ 12416)) r (words-few s t (length s) (a .layout) (a .limited), illegals-few s t (length s) (a .layout) (a .limited))
-
-    pub measured-whole : (w i : ℕ) → w ≡ wordsNeeded (rawTable s) → i ≡ illegalTotal (rawTable s) → answer 0 w i ≡ measureOf s
-    unfolding Model.measure
-    measured-whole w i ew ei = accepted (answer 0 w i ≡ measureOf s) λ t d r.
-        ap₂ (λ (a b : ℕ). answer 0 a b) (ew ∙ ap wordsNeeded (sym r)) (ei ∙ ap illegalTotal (sym r))
-        ∙ ap (λ (o : Outcome). answer (measured o .number) (measured o .words) (measured o .illegals)) (sym d)
+    pub facts-whole : (n : Tally) → Tallied (rawTable s) n → (p : ℕ) → p ≡ u16 s 0 → facts 0 p (n .counters) (n .runs) (n .illegals) ≡ factsOf s
+    unfolding factsOf
+    facts-whole n told p ep = accepted (facts 0 p (n .counters) (n .runs) (n .illegals) ≡ factsOf s) λ t d r.
+        let within : withinLimits (rawTable s) ≡ true = ap withinLimits (sym r) ∙ acceptance s t d .limited in
+        ap₂ (λ (a b : ℕ). facts 0 a b (n .runs) (n .illegals)) (ep ∙ points-number ∙ ap pointTotal (sym r)) (told .counters within ∙ ap counterTotal (sym r))
+        ∙ ap₂ (λ (a b : ℕ). facts 0 (pointTotal t) (counterTotal t) a b) (told .runs ∙ ap runTotal (sym r)) (told .illegals ∙ ap illegalTotal (sym r)) ∙ ap factsFrom (sym d)
 
     pub section-whole : (number : ℕ) → sectionBytes s number ≡ section s number
     unfolding section
@@ -75,11 +122,10 @@ module _ (s : List ℕ) (v : Verdict) (e : v ≡ checked s) where
         }
 
   module _ (z : v .class ≡ 0 → ⊥) where
-    pub measured-refused : (n : ℕ) → n ≡ numberFor (v .class) → answer n 0 0 ≡ measureOf s
-    unfolding Model.measure
-    measured-refused n en = refused-outcome s v e z (answer n 0 0 ≡ measureOf s) λ f d c.
-        ap (λ (a : ℕ). answer a 0 0) (en ∙ ap numberFor c ∙ number-of-code (f .class))
-        ∙ ap (λ (o : Outcome). answer (measured o .number) (measured o .words) (measured o .illegals)) (sym d)
+    pub facts-refused : (n : ℕ) → n ≡ numberFor (v .class) → facts n 0 0 0 0 ≡ factsOf s
+    unfolding factsOf
+    facts-refused n en = refused-outcome s v e z (facts n 0 0 0 0 ≡ factsOf s) λ f d c.
+        ap (λ (a : ℕ). facts a 0 0 0 0) (en ∙ ap numberFor c ∙ number-of-code (f .class)) ∙ ap factsFrom (sym d)
 
     pub section-refused : (number : ℕ) → [] ≡ section s number
     unfolding section

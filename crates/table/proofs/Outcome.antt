@@ -1,11 +1,11 @@
 -- What the whole check says, from what the sections and the limits say.
 -- Assumes nothing.
-use Prim.Native.Nat.{ℕ, _+_, _-_, _≤_, _<_}
-use mathlib.Core.Path.{_≡_, refl, sym, ap, ap₂, _∙_}
+use Prim.Native.Nat.{ℕ, suc, _-_, _≤_, _<_}
+use mathlib.Core.Path.{_≡_, refl, sym, ap, _∙_}
 use mathlib.Core.Bool.{Bool, true, false, cond}
 use mathlib.Core.List.{List}
 use native.Mathlib.Omega.{arith}
-use lib.Dec.{leb, eqb}
+use lib.Dec.{eqb}
 use lib.ListN.{length}
 use borrow.Author.Tests.{le-leb, lt-leb, eq-eqb, ne-eqb}
 use Rattle.model.specs.Table.{Table}
@@ -17,7 +17,17 @@ use Rattle.words.specs.Verdicts.{verdict, codeOf, verdictOf}
 use Rattle.words.specs.declared.verdicts.Verdict.{Verdict}
 use Rattle.words.proofs.Laws.{code-not-none}
 use Rattle.words.proofs.Chain.{says-sound}
-use Rattle.table.specs.Check.{outcomeVerdict, checked, numberFor}
+use Rattle.limits.specs.declared.answer.Tally.{Tally}
+use Rattle.limits.specs.Tallies.{Tallied}
+use Rattle.table.specs.declared.check.Examined.{Examined}
+use Rattle.table.specs.Check.{outcomeVerdict, checked, numberFor, ExaminedOf}
+
+-- a fault and the table that it refuses
+pub faulty-found : (s : List ℕ) (v : Verdict) → (v .class ≡ 0 → ⊥) → v ≡ checked s → (r : Examined) → r .verdict ≡ v → ExaminedOf s r
+faulty-found s v z e r er = record { verdict = er ∙ e; tally = λ y. absurd (z (sym (ap (λ (q : Verdict). q .class) er) ∙ y)) }
+
+pub faulty-is : (s : List ℕ) (class at : ℕ) (v : Verdict) → v ≡ verdict (suc class) at → verdict (suc class) at ≡ checked s → (r : Examined) → r .verdict ≡ v → ExaminedOf s r
+faulty-is s class at v ev e r er = faulty-found s v (λ y. let z : suc class ≡ 0 = sym (ap (λ (q : Verdict). q .class) ev) ∙ y in omega arith) (ev ∙ e) r er
 
 module _ (s : List ℕ) where
   pub too-long : 65536 < length s → verdict 1 0 ≡ checked s
@@ -55,13 +65,21 @@ module _ (s : List ℕ) where
         last : checked s ≡ outcomeVerdict (length s) (limited (length s) (rawTable s))
         last = outcome ∙ rw (eq-eqb (r .at) (length s) y)
 
-        pub all-passed : (w : Bool) → w ≡ withinLimits (rawTable s) → w ≡ true → verdict 0 (length s) ≡ checked s
+        all-passed : withinLimits (rawTable s) ≡ true → verdict 0 (length s) ≡ checked s
         unfolding outcomeVerdict
-        all-passed w e₁ e₂ = sym (last ∙ rw (sym e₁ ∙ e₂))
+        all-passed e = sym (last ∙ rw e)
 
-        pub over-limits : (w : Bool) → w ≡ withinLimits (rawTable s) → w ≡ false → verdict 9 (length s) ≡ checked s
+        over-limits : withinLimits (rawTable s) ≡ false → verdict 9 (length s) ≡ checked s
         unfolding outcomeVerdict
-        over-limits w e₁ e₂ = sym (last ∙ rw (sym e₁ ∙ e₂))
+        over-limits e = sym (last ∙ rw e)
+
+        -- with its tally
+        module _ (n : Tally) (told : Tallied (rawTable s) n) (v : Verdict) where
+          pub examined-whole : n .fits ≡ true → v ≡ verdict 0 (length s) → ExaminedOf s (record { verdict = v; tally = n })
+          examined-whole f ev = record { verdict = ev ∙ all-passed (sym (told .fits) ∙ f); tally = λ z. told }
+
+          pub examined-over : n .fits ≡ false → v ≡ verdict 9 (length s) → (r : Examined) → r .verdict ≡ v → ExaminedOf s r
+          examined-over f ev r er = faulty-is s 8 (length s) v ev (over-limits (sym (told .fits) ∙ f)) r er
 
 -- the class's number is the model's
 pub number-of-code : (c : FaultClass) → numberFor (codeOf c) ≡ numberOf c

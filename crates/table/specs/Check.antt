@@ -7,12 +7,16 @@ use mathlib.Core.List.{List}
 use lib.Dec.{leb}
 use lib.ListN.{length, take, drop}
 use Rattle.model.specs.Table.{Point, Table}
-use Rattle.model.specs.Format.{Reader, _>>=_, done, BinHead, readRangeSection, readTransitionBins, readCrosses, Outcome, rejected, decoded, decode}
+use Rattle.model.specs.Format.{Reader, _>>=_, done, BinHead, readRangeSection, readTransitionBins, readCrosses, numberOf, Outcome, rejected, decoded, decode}
+use Rattle.model.specs.Raw.{rawTable}
 use Rattle.model.specs.Register as Model
 use Rattle.words.specs.Verdicts.{verdict, codeOf}
 use Rattle.words.specs.declared.verdicts.Verdict.{Verdict}
+use Rattle.limits.specs.Tallies.{Tallied}
+use Rattle.table.specs.declared.answer.Facts.{Facts}
 use Rattle.table.specs.declared.answer.Measure.{Measure}
 use Rattle.table.specs.declared.answer.Place.{Place}
+use Rattle.table.specs.declared.check.Examined.{Examined}
 use Rattle.reader.specs.Parts.{sectionPart}
 
 -- the outcome as a verdict: its fault, or no fault and the table's length
@@ -22,6 +26,11 @@ outcomeVerdict size (decoded t) = verdict 0 size
 
 unfoldable pub checked : List ℕ → Verdict
 checked s = outcomeVerdict (length s) (decode s)
+
+-- the verdict; and without a fault, the tally of the table
+pub record ExaminedOf (s : List ℕ) (r : Examined) : Type 0 where
+  pub verdict : r .verdict ≡ checked s
+  pub tally : r .verdict .class ≡ 0 → Tallied (rawTable s) (r .tally)
 
 -- document 01's refusal number of a class's code (`number-of-code` of proofs/CheckLaws.antt: the model's `numberOf`)
 unfoldable pub numberFor : ℕ → ℕ
@@ -34,6 +43,21 @@ afterBins s ps heads = do
   ts ← readTransitionBins s ps
   cs ← readCrosses s ps heads
   done (record { points = ps; valueBins = bins; transitionBins = ts; crosses = cs })
+
+-- the refusal number, and what the table counts: all 0 if it is refused
+abbrev pub factsFrom : Outcome → Facts
+factsFrom (rejected f) = record { number = numberOf (f .class); points = 0; counters = 0; runs = 0; illegals = 0 }
+factsFrom (decoded t) = record { number = 0; points = Model.pointTotal t; counters = Model.counterTotal t; runs = Model.runTotal t; illegals = Model.illegalTotal t }
+
+unfoldable pub factsOf : List ℕ → Facts
+factsOf s = factsFrom (decode s)
+
+-- how much they can be
+pub record Few (f : Facts) : Type 0 where
+  pub points : f .points ≤ 16
+  pub counters : f .counters ≤ 12416
+  pub runs : f .runs ≤ 2048
+  pub illegals : f .illegals ≤ 12416
 
 -- the model's measure, field by field
 abbrev pub measureOf : List ℕ → Measure

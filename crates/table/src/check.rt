@@ -4,7 +4,8 @@ use check_transitions::transition_bins;
 use check_values::bins::bin_section;
 use check_values::points::point_section;
 use check_values::value_ranges::range_section;
-use limits::within_limits;
+use limits::answer::Tally;
+use limits::tally;
 use words::bytes::read2;
 use words::verdicts::Verdict;
 use words::verdicts::fault;
@@ -17,7 +18,13 @@ ghost use Rattle.model.specs.Raw.{rows, pointsAt};
 ghost use Rattle.words.specs.Verdicts.{verdictOf};
 ghost use Rattle.ranges.specs.Types.{AllWide};
 ghost use Rattle.check_values.specs.Places.{AllKnown};
-ghost use Rattle.table.specs.Check.{afterBins, checked, numberFor};
+ghost use Rattle.table.specs.Check.{afterBins, checked, numberFor, ExaminedOf};
+
+// The table's verdict; and what it counts, if there is no fault.
+pub struct Examined {
+    pub verdict: Verdict,
+    pub tally: Tally,
+}
 
 // Sections 3 to 10: np points from byte 2 on, nb bins from bins on; section 3's count stands at at.
 fn after_bins(t: &[u8], np: usize, bins: usize, nb: usize, at: usize) -> Verdict
@@ -55,26 +62,55 @@ fn sections(t: &[u8]) -> Verdict
     after_bins(t, np, place + 2, nb, b.at)
 }
 
-// The table's verdict: the first fault, or none and the table's length.
-pub fn check(t: &[u8]) -> Verdict
-    ensures { λ r. ⌜ r ≡ checked (now (t .entry)) ⌝ }
+// A table with a fault, which counts nothing.
+fn faulty(v: Verdict) -> Examined
+    ensures { λ r. ⌜ r .verdict ≡ v ⌝ }
+{
+    let none = Tally {
+        fits: false,
+        counters: 0,
+        runs: 0,
+        illegals: 0,
+    };
+    Examined {
+        verdict: v,
+        tally: none,
+    }
+}
+
+// The table's verdict, the first fault, or none and the table's length; and its tally.
+pub fn examine(t: &[u8]) -> Examined
+    ensures { λ r. ⌜ ExaminedOf (now (t .entry)) r ⌝ }
 {
     let len = t.len();
     if 65536 < len {
-        return fault(1, 0);
+        return faulty(fault(1, 0));
     }
     let r = sections(t);
     if r.class != 0 {
-        return r;
+        return faulty(r);
     }
     let at = r.at;
     if at != len {
-        return fault(8, at);
+        return faulty(fault(8, at));
     }
-    if within_limits(t) {
-        return sound(len);
+    let n = tally(t);
+    if n.fits {
+        let v = sound(len);
+        return Examined {
+            verdict: v,
+            tally: n,
+        };
     }
-    fault(9, len)
+    faulty(fault(9, len))
+}
+
+// The verdict by itself.
+pub fn check(t: &[u8]) -> Verdict
+    ensures { λ r. ⌜ r ≡ checked (now (t .entry)) ⌝ }
+{
+    let e = examine(t);
+    e.verdict
 }
 
 // The refusal number of a fault's class.

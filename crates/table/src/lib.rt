@@ -2,37 +2,65 @@
 pub mod answer;
 pub mod check;
 
+use crate::answer::Facts;
 use crate::answer::Measure;
 use crate::answer::Place;
 use crate::check::check;
+use crate::check::examine;
 use crate::check::number_for;
-use limits::illegal_total;
-use limits::words_needed;
 use reader::section_bytes;
 use reader::section_part;
+use words::bytes::read2;
 ghost use mathlib.Core.Path.{_≡_};
 ghost use Rattle.model.specs.Register as Model;
-ghost use Rattle.table.specs.Check.{measureOf, SectionAt};
+ghost use Rattle.table.specs.Check.{factsOf, Few, measureOf, SectionAt};
+
+pub fn facts(table: &[u8]) -> Facts
+    ensures { λ r. ⌜ r ≡ factsOf (now (table .entry)) ⌝ }
+    ensures { λ r. ⌜ Few r ⌝ }
+{
+    let e = examine(table);
+    let v = e.verdict;
+    let n = e.tally;
+    let class = v.class;
+    if class != 0 {
+        let number = number_for(class);
+        return Facts {
+            number: number,
+            points: 0,
+            counters: 0,
+            runs: 0,
+            illegals: 0,
+        };
+    }
+    let points = read2(table, 0);
+    Facts {
+        number: 0,
+        points: points as usize,
+        counters: n.counters,
+        runs: n.runs,
+        illegals: n.illegals,
+    }
+}
 
 pub fn measure(table: &[u8]) -> Measure
     ensures { λ r. ⌜ r ≡ measureOf (now (table .entry)) ⌝ }
 {
-    let v = check(table);
-    let class = v.class;
-    if class != 0 {
-        let number = number_for(class);
+    let f = facts(table);
+    let number = f.number;
+    if number != 0 {
         return Measure {
             number: number,
             words: 0,
             illegal_places: 0,
         };
     }
-    let words = words_needed(table);
-    let illegal = illegal_total(table);
+    let words = 2 + f.counters + f.points + f.runs;
+    let illegals = f.illegals;
     Measure {
         number: 0,
         words: words as u32,
-        illegal_places: illegal as u32,
+        illegal_places: illegals as u32,
     }
 }
 

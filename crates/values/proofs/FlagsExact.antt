@@ -41,7 +41,7 @@ regroup true false true = refl
 regroup true false false = refl
 regroup false b c = refl
 
-length-row : {A : Type 0} (f : ℕ → A) (i n : ℕ) → length (map f (upFrom i n)) ≡ n
+pub length-row : {A : Type 0} (f : ℕ → A) (i n : ℕ) → length (map f (upFrom i n)) ≡ n
 unfolding upFrom
 length-row f i zero = refl
 length-row f i (suc n) = ap suc (length-row f (suc i) n)

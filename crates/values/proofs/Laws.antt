@@ -19,7 +19,7 @@ use Rattle.model.specs.Format.{byte, u16, u64, rangeRecord, kindFrom, formFrom,
 use Rattle.model.specs.Ranges.{size, sizes}
 use Rattle.model.proofs.Booleans.{false-true, and-left, and-right}
 use Rattle.model.specs.Raw.{rows, rangesAt, binAt, binsAt}
-use Rattle.values.specs.Flags.{takes, lists, inSpan, placeIn, binsOf, setAll, markOne, fixedFlags, valueFlags, smallRange, coverFlags, Hit, hit, flagsBy, binFlags, flagsIn, binFits, fits, excludedIn, listedIn}
+use Rattle.values.specs.Flags.{takes, inSpan, placeIn, binsOf, setAll, markOne, fixedFlags, valueFlags, smallRange, coverFlags, Hit, hit, flagsBy, binFlags, flagsIn, binFits, fits, excludedIn, listedIn}
 use Rattle.arrays.specs.Put.{put}
 use Rattle.arrays.proofs.PutLaws.{put-nil, put-put}
 
@@ -78,13 +78,7 @@ module _ (s : List ℕ) (a r p v : ℕ) where
       go true false y h = refl
       go false b y h = refl
 
-  pub lists-in : (q n : ℕ) (y : Bool) → q ≡ byte s a → n ≡ u16 s (a + 6) → q ≡ p → y ≡ inRanges (rangesAt s r n) v → y ≡ lists p v (binAt s a r)
-  lists-in q n y e m c i = i ∙ rw (← e, ← m, eq-eqb q p c)
-
-  pub lists-out : (q : ℕ) → q ≡ byte s a → (q ≡ p → ⊥) → false ≡ lists p v (binAt s a r)
-  lists-out q e c = rw (← e, ne-eqb q p c)
-
-pub ruleset bin = (needs, takes-in, takes-out, lists-in, lists-out)
+pub ruleset bin = (needs, takes-in, takes-out)
 
 -- ---- ranges in a row
 
@@ -92,7 +86,7 @@ module _ (s : List ℕ) (at v : ℕ) where
   pub ranges-start : (n : ℕ) → inRanges (rangesAt s at n) v ≡ inRanges (rangesAt s (at + 17 * 0) (n - 0)) v
   ranges-start n = ap₂ (λ (a m : ℕ). inRanges (rangesAt s a m) v) (let z : at ≡ at + 17 * 0 = omega arith in z) (let z : n ≡ n - 0 = omega arith in z)
 
-  ranges-step : (n i : ℕ) → i < n → inRanges (rangesAt s (at + 17 * i) (n - i)) v ≡ inRange (rangeRecord s (at + 17 * i)) v || inRanges (rangesAt s (at + 17 * (i + 1)) (n - (i + 1))) v
+  pub ranges-step : (n i : ℕ) → i < n → inRanges (rangesAt s (at + 17 * i) (n - i)) v ≡ inRange (rangeRecord s (at + 17 * i)) v || inRanges (rangesAt s (at + 17 * (i + 1)) (n - (i + 1))) v
   unfolding rows inRanges
   ranges-step n i h =
       ap (λ (m : ℕ). inRanges (rangesAt s (at + 17 * i) m) v) (one-left n i h)

@@ -1,4 +1,5 @@
 pub mod Laws
+pub mod Listing
 pub mod Fixed
 pub mod Dealt
 pub mod NextLaws

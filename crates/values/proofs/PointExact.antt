@@ -50,14 +50,14 @@ unfolding any transitionsAt someOwn
 own-transitions s p b q k r zero = refl
 own-transitions s p b q k r (suc n) = ap₂ _||_ (ap (eqb (byte s b) p &&_) (cover-kind (byte s (b + 1)))) (own-transitions s p (b + 4) _ _ _ n)
 
-auto-raw : (s : List ℕ) (p : ℕ) → hasAuto (rawTable s) p ≡ hasAutoAt s p (recordsPlace s 1) (recordCount s 1) (recordsPlace s 3) (recordCount s 3)
+pub auto-raw : (s : List ℕ) (p : ℕ) → hasAuto (rawTable s) p ≡ hasAutoAt s p (recordsPlace s 1) (recordCount s 1) (recordsPlace s 3) (recordCount s 3)
 unfolding hasAuto rawTable
 auto-raw s p =
     ap₂ (λ (x y : Bool). not x && not y)
     (own-bins s p (recordsPlace s 1) (recordsPlace s 2) (recordCount s 1))
     (own-transitions s p (recordsPlace s 3) (recordsPlace s 4) (recordsPlace s 5) (recordsPlace s 6) (recordCount s 3))
 
-hit-append : (t : Table) (w : List ℕ) (m : Stretches) (xs ys : List Counter) → hitFlags t w m (xs ++ ys) ≡ hitFlags t w m xs ++ hitFlags t w m ys
+pub hit-append : (t : Table) (w : List ℕ) (m : Stretches) (xs ys : List Counter) → hitFlags t w m (xs ++ ys) ≡ hitFlags t w m xs ++ hitFlags t w m ys
 unfolding hitFlags
 hit-append t w m xs ys = map-append (λ c. asBit (hits t w m c)) xs ys
 
@@ -71,14 +71,14 @@ module _ (s : List ℕ) (t : Table) (e : decode s ≡ decoded t) (p : ℕ) (insi
       let many : length (t .points) ≡ recordCount s 0 = ap length q ∙ length-rows (pointRecord s) 11 (recordsPlace s 0) (recordCount s 0) in
       ap (λ (ps : List Point). getD ps p noPoint) q ∙ getD-rows (pointRecord s) 11 (recordsPlace s 0) (recordCount s 0) p noPoint (omega arith)
 
-  few-counters : length (pointCounters t p) ≤ 256
+  pub few-counters : length (pointCounters t p) ≤ 256
   unfolding withinLimits
   few-counters =
       let points = all (λ q. leb (length (pointCounters t q)) 256) (upFrom 0 (length (t .points))) in
       let crosses = all (λ c. leb (productCount t c) 1024) (upFrom 0 (length (t .crosses))) in
       leb-true (length (pointCounters t p)) 256 (all-from (λ q. leb (length (pointCounters t q)) 256) 0 (length (t .points)) (and-left points crosses (acceptance s t e .limited)) p (omega arith) (omega arith))
 
-  few-values : length (valueCounters t p 0 (t .valueBins)) ≤ 256
+  pub few-values : length (valueCounters t p 0 (t .valueBins)) ≤ 256
   unfolding pointCounters
   few-values =
       let mine = valueCounters t p 0 (t .valueBins) in

@@ -26,6 +26,7 @@ use Rattle.model.proofs.RawExact.{next-place, raw-exact, sections-whole}
 use Rattle.ranges.specs.Types.{Wide}
 use Rattle.values.specs.Flags.{smallRange, binFits, fits}
 use Rattle.values.specs.Points.{Near}
+use Rattle.values.proofs.Listing.{length-bins}
 use Rattle.values.proofs.ValueLaws.{pow-half}
 use Rattle.values.proofs.PointExact.{point-raw}
 
@@ -59,17 +60,12 @@ read-top p g bits h = go (p .signed) (leb (2 ^ (p .width - 1)) bits) refl
 
 -- ---- places
 
-length-bins : (s : List ℕ) (a r n : ℕ) → length (binsAt s a r n) ≡ n
-unfolding binsAt
-length-bins s a r zero = refl
-length-bins s a r (suc n) = ap suc (length-bins s (a + 8) _ n)
-
 module _ (s : List ℕ) (t : Table) (e : decode s ≡ decoded t) (p : ℕ) (inside : p < length (t .points)) where
-  bins-raw : t .valueBins ≡ binsAt s (recordsPlace s 1) (recordsPlace s 2) (recordCount s 1)
+  pub bins-raw : t .valueBins ≡ binsAt s (recordsPlace s 1) (recordsPlace s 2) (recordCount s 1)
   unfolding rawTable
   bins-raw = ap (λ (u : Table). u .valueBins) (raw-exact s t e)
 
-  many : length (t .points) ≡ recordCount s 0
+  pub many : length (t .points) ≡ recordCount s 0
   unfolding rawTable
   many = ap (λ (u : Table). length (u .points)) (raw-exact s t e) ∙ length-rows (pointRecord s) 11 (recordsPlace s 0) (recordCount s 0)
 

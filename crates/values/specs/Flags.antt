@@ -25,6 +25,11 @@ excludedIn p v bs = any (takes p v) bs
 unfoldable pub listedIn : ℕ → ℕ → List ValueBin → Bool
 listedIn p v bs = any (lists p v) bs
 
+-- the number of the first bin that lists the value, the first bin here being number b; after the last, the next number
+unfoldable pub firstListing : ℕ → ℕ → ℕ → List ValueBin → ℕ
+firstListing p v b [] = b
+firstListing p v b (x ∷ xs) = cond (lists p v x) b (firstListing p v (suc b) xs)
+
 -- what one reading brings to every bin of its point: the sample, the lowest value of the type, the value, and whether it is excluded or listed there
 pub record Hit : Type 0 where
   pub sample : List ℕ

@@ -1,7 +1,7 @@
 // Flags of a point's auto bins.
 use crate::marks::bin_at;
-use arrays::put_same;
 use crate::marks::share_of;
+use arrays::put_same;
 ghost use mathlib.Core.Path.{_≡_};
 ghost use Prim.Native.Nat.{_<_, _≤_, _+_, _^_};
 ghost use lib.ListN.{length};

@@ -1,9 +1,9 @@
 // The flags of a point's value bins, bin after bin.
 use crate::fields::guard_true;
 use crate::marks::put_fixed;
-use arrays::put_one;
 use crate::member::in_ranges;
 use crate::rising::put_values;
+use arrays::put_one;
 use words::bytes::byte;
 use words::bytes::read2;
 ghost use mathlib.Core.Path.{_≡_};
@@ -49,7 +49,7 @@ fn put_cover(
 }
 
 // The cover bin at a, its ranges from r on.
-fn put_cover_at(
+pub fn put_cover_at(
     flags: &mut [u8],
     cur: usize,
     t: &[u8],

@@ -38,7 +38,7 @@ fn some_own(t: &[u8], start: usize, size: usize, n: usize, p: u8, defaults: bool
 }
 
 // The point has auto bins: n value bins from a on, k transition bins from b on.
-fn has_auto(t: &[u8], a: usize, n: usize, b: usize, k: usize, p: u8) -> bool
+pub fn has_auto(t: &[u8], a: usize, n: usize, b: usize, k: usize, p: u8) -> bool
     requires { ⌜ (a < 1000000000) × (n < 65536) × (b < 1000000000) × (k < 65536) ⌝ }
     ensures { λ r. ⌜ r ≡ hasAutoAt (now (t .entry)) p a n b k ⌝ }
 {
@@ -48,7 +48,7 @@ fn has_auto(t: &[u8], a: usize, n: usize, b: usize, k: usize, p: u8) -> bool
 }
 
 // The auto bins of the point whose record stands at point.
-fn put_autos(
+pub fn put_autos(
     flags: &mut [u8],
     cur: usize,
     t: &[u8],
@@ -72,7 +72,7 @@ fn put_autos(
     put_auto(flags, cur, low, low + all - 1, number, v, live)
 }
 
-fn auto_count(all: u64, most: u16) -> usize
+pub fn auto_count(all: u64, most: u16) -> usize
     ensures { λ r. ⌜ r ≡ min all most ⌝ }
 {
     if all < most as u64 {
@@ -110,7 +110,7 @@ pub fn put_point(
 }
 
 // The lowest value of the point's type.
-fn lowest_at(t: &[u8], point: usize) -> u64
+pub fn lowest_at(t: &[u8], point: usize) -> u64
     requires { ⌜ (point < 1000000000) × Wide (now t) point ⌝ }
     ensures { λ r. ⌜ r ≡ lowest (pointRecord (now (t .entry)) point) ⌝ }
 {

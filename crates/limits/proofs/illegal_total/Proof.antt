@@ -3,9 +3,6 @@ use borrow.Author.Needs.{needs}
 use Rattle.limits.proofs.illegal_total.Statement.{statement}
 use Rattle.limits.proofs.illegal_total.Tie as tie
 
-layout-of-requires : tie.Need-layout-of-requires
-layout-of-requires c κs = search needs
-
 add-count-bytes : tie.Need-add-count-bytes
 add-count-bytes c = search needs
 
@@ -29,16 +26,12 @@ add-result-2 c = search needs
 
 returns : tie.Need-returns
 returns c =
-    let e = c .before .before .before .before .before .layout-of in
-    let known = c .before .before .before .before .before .before .before .pre in
-    illegal-sum (c .before .before .before .before .before .before .before .args .t .now) (e .result) (e .ensures .0) known _ _ _
-    (c .before .before .before .count-bytes .ensures .0) (c .before .count-bytes2 .ensures .0) (c .cross-kinds .ensures .0)
+    illegal-sum (c .before .before .before .before .before .before .args .t .now) (c .before .before .before .before .before .before .args .l) (c .before .before .before .before .before .before .pre .1) (c .before .before .before .before .before .before .pre .0) _ _ _ (c .before .before .before .count-bytes .ensures .0) (c .before .count-bytes2 .ensures .0) (c .cross-kinds .ensures .0)
 
 pub illegal-total-spec : {M : Type 1} → statement M
 illegal-total-spec =
     tie.close
     (tie.spec
-    layout-of-requires
     add-count-bytes
     count-bytes-requires
     add-count-bytes-2

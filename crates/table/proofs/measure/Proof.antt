@@ -1,53 +1,34 @@
 use native.Mathlib.Omega.{arith}
+use Rattle.table.proofs.MeasureLaws.{measured-whole, measured-refused}
 use borrow.Author.Needs.{needs}
-use Rattle.table.proofs.MeasureLaws.{readable, limited, few, measured-whole, measured-refused}
 use Rattle.table.proofs.measure.Statement.{statement}
 use Rattle.table.proofs.measure.Tie as tie
 
-check-requires : tie.Need-check-requires
-check-requires c κs = search needs
-
-number-for-requires : tie.Need-number-for-requires
-number-for-requires c κs = search needs
+facts-requires : tie.Need-facts-requires
+facts-requires c κs = search needs
 
 returns : tie.Need-returns
-returns c = measured-refused _ _ (c .before .before .check .ensures) (c .before .if1 .taken) _ (c .number-for .ensures)
+returns c = measured-refused _ _ (c .before .facts .ensures .0) (c .if1 .taken)
 
-words-needed-requires : tie.Need-words-needed-requires
-words-needed-requires c κs =
-    let v = c .before .check .ensures in
-    let z = c .if1 .left in
-    (readable _ _ v z, limited _ _ v z)
+add-words : tie.Need-add-words
+add-words c = let f = c .before .before .facts .ensures .1 in omega (arith, f .counters, f .points, f .runs)
 
-illegal-total-requires : tie.Need-illegal-total-requires
-illegal-total-requires c κs = readable _ _ (c .before .before .check .ensures) (c .before .if1 .left)
+add-words-2 : tie.Need-add-words-2
+add-words-2 c = let f = c .before .before .before .facts .ensures .1 in omega (arith, f .counters, f .points, f .runs)
 
-cast-t8 : tie.Need-cast-t8
-cast-t8 c =
-    let f = few _ _ (c .before .before .before .check .ensures) (c .before .before .if1 .left) in
-    let h = f .0 in
-    let w = c .before .words-needed .ensures in
-    omega arith
+add-words-3 : tie.Need-add-words-3
+add-words-3 c = let f = c .before .before .before .before .facts .ensures .1 in omega (arith, f .counters, f .points, f .runs)
 
 cast-t9 : tie.Need-cast-t9
-cast-t9 c =
-    let f = few _ _ (c .before .before .before .check .ensures) (c .before .before .if1 .left) in
-    let h = f .1 in
-    let w = c .illegal-total .ensures in
-    omega arith
+cast-t9 c = let f = c .before .before .before .before .facts .ensures .1 in omega (arith, f .counters, f .points, f .runs)
+
+cast-t10 : tie.Need-cast-t10
+cast-t10 c = let f = c .before .before .before .before .facts .ensures .1 in omega (arith, f .illegals)
 
 returns-2 : tie.Need-returns-2
-returns-2 c = measured-whole _ _ (c .before .before .before .check .ensures) (c .before .before .if1 .left) _ _ (c .before .words-needed .ensures) (c .illegal-total .ensures)
+returns-2 c = measured-whole _ _ (c .before .before .before .before .facts .ensures .0) (c .before .before .before .if1 .left)
 
 pub measure-spec : {M : Type 1} → statement M
 measure-spec =
     tie.close
-    (tie.spec
-    check-requires
-    number-for-requires
-    returns
-    words-needed-requires
-    illegal-total-requires
-    cast-t8
-    cast-t9
-    returns-2)
+    (tie.spec facts-requires returns add-words add-words-2 add-words-3 cast-t9 cast-t10 returns-2)

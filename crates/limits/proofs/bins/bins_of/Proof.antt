@@ -6,7 +6,7 @@ use Rattle.model.specs.Format.{byte, u16, pointRecord}
 use Rattle.model.specs.Ranges.{firstValues}
 use Rattle.model.specs.Raw.{rangesAt}
 use Rattle.limits.specs.Bins.{isSpan, ownRanges}
-use Rattle.limits.proofs.BinLaws.{form-single, form-per-value, form-fixed, spanned-per-value}
+use Rattle.limits.proofs.KindLaws.{form-single, form-per-value, form-fixed, spanned-per-value}
 use borrow.Author.Needs.{needs}
 use Rattle.limits.proofs.bins.bins_of.Statement.{statement}
 use Rattle.limits.proofs.bins.bins_of.Tie as tie

@@ -1,30 +1,24 @@
 use Prim.Native.Nat.{_≤_, _+_, _*_, _-_}
 use mathlib.Core.Path.{_≡_}
-use native.Mathlib.Omega.{arith}
-use borrow.Author.Needs.{needs}
 use Rattle.limits.specs.Walks.{walkSum, after}
 use Rattle.limits.specs.Bins.{crossProducts}
 use Rattle.limits.proofs.WalkLaws.{walks}
-use Rattle.limits.proofs.CrossLaws.{names-points}
+use borrow.Author.Needs.{needs}
 use Rattle.limits.proofs.crosses.product_sum.Statement.{statement}
 use Rattle.limits.proofs.crosses.product_sum.Tie as tie
 
 abbrev Inv-loop : tie.InvT-loop
-Inv-loop t start n sum₀ at₀ i₀ sum at i =
-    (i ≤ n) × (at ≡ start + 13 * i) × (sum ≤ 1025 * i) × (walkSum 0 (crossProducts t) (after 13) start n ≡ walkSum sum (crossProducts t) (after 13) at (n - i))
+Inv-loop covers t start n sum₀ at₀ i₀ sum at i =
+    (i ≤ n) × (at ≤ start + 13 * i) × (sum ≤ 1025 * i) × (walkSum 0 (crossProducts covers t) (after 13) start n ≡ walkSum sum (crossProducts covers t) (after 13) at (n - i))
 
 abbrev μ-loop : tie.MeasureT-loop
-μ-loop t start n sum₀ at₀ i₀ sum at i = n - i
+μ-loop covers t start n sum₀ at₀ i₀ sum at i = n - i
 
 loop-holds : tie.Need-loop-holds Inv-loop μ-loop
 loop-holds c = search walks
 
 cross-products-requires : tie.Need-cross-products-requires Inv-loop μ-loop
-cross-products-requires c κs =
-    let l = c .before .loop in
-    let a = c .before .before .before .args in
-    let pre = c .before .before .before .pre in
-    (pre .0, (search needs, names-points (a .t .now) (pre .0) (l .at) (l .i) (omega (arith, pre .1 .1)) (omega (arith, pre .1 .0))))
+cross-products-requires c κs = search needs
 
 add-sum : tie.Need-add-sum Inv-loop μ-loop
 add-sum c = search needs

@@ -1,28 +1,39 @@
 use Prim.Native.Nat.{_≤_, _*_, _-_}
-use mathlib.Core.Path.{_≡_}
-use borrow.Author.Needs.{needs}
-use Rattle.model.specs.Ranges.{countersAt}
-use Rattle.model.specs.Raw.{rawTable}
+use mathlib.Core.Path.{_≡_, refl}
 use Rattle.limits.specs.Walks.{walkSum, after}
-use Rattle.limits.proofs.WalkLaws.{walks}
+use Rattle.limits.specs.Bins.{countersIn}
+use Rattle.limits.proofs.WalkLaws.{walks, walk-on}
+use borrow.Author.Needs.{needs}
 use Rattle.limits.proofs.points.point_sum.Statement.{statement}
 use Rattle.limits.proofs.points.point_sum.Tie as tie
 
 abbrev Inv-loop : tie.InvT-loop
-Inv-loop t n sum₀ i₀ sum i =
-    (i ≤ n) × (sum ≤ 100000000 * i) × (walkSum 0 (countersAt (rawTable t)) (after 1) 0 n ≡ walkSum sum (countersAt (rawTable t)) (after 1) i (n - i))
+Inv-loop covers singles n sum₀ i₀ sum i =
+    (i ≤ n) × (sum ≤ 8589934590 * i) × (walkSum 0 (countersIn covers singles) (after 1) 0 n ≡ walkSum sum (countersIn covers singles) (after 1) i (n - i))
 
 abbrev μ-loop : tie.MeasureT-loop
-μ-loop t n sum₀ i₀ sum i = n - i
+μ-loop covers singles n sum₀ i₀ sum i = n - i
 
 loop-holds : tie.Need-loop-holds Inv-loop μ-loop
 loop-holds c = search walks
 
-counters-at-requires : tie.Need-counters-at-requires Inv-loop μ-loop
-counters-at-requires c κs = search needs
+entry-requires : tie.Need-entry-requires Inv-loop μ-loop
+entry-requires c κs = search needs
+
+cast-a : tie.Need-cast-a Inv-loop μ-loop
+cast-a c = search needs
+
+entry-requires-2 : tie.Need-entry-requires-2 Inv-loop μ-loop
+entry-requires-2 c κs = search needs
+
+cast-b : tie.Need-cast-b Inv-loop μ-loop
+cast-b c = search needs
 
 add-sum : tie.Need-add-sum Inv-loop μ-loop
 add-sum c = search needs
+
+add-sum-2 : tie.Need-add-sum-2 Inv-loop μ-loop
+add-sum-2 c = search needs
 
 add-i : tie.Need-add-i Inv-loop μ-loop
 add-i c = search needs
@@ -31,7 +42,9 @@ loop-less : tie.Need-loop-less Inv-loop μ-loop
 loop-less c = search needs
 
 loop-again : tie.Need-loop-again Inv-loop μ-loop
-loop-again c = search walks
+loop-again c =
+    let l = c .before .before .before .loop in
+    (search needs, search needs, walk-on _ _ _ _ _ _ _ (l .inv .2) _ _ (search needs) (rw (c .before .entry .ensures, c .entry2 .ensures)) refl)
 
 returns : tie.Need-returns Inv-loop μ-loop
 returns c = (search walks, search needs)
@@ -43,8 +56,12 @@ point-sum-spec =
     Inv-loop
     μ-loop
     loop-holds
-    counters-at-requires
+    entry-requires
+    cast-a
+    entry-requires-2
+    cast-b
     add-sum
+    add-sum-2
     add-i
     loop-less
     loop-again

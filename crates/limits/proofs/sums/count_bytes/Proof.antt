@@ -7,7 +7,8 @@ use Rattle.limits.proofs.sums.count_bytes.Statement.{statement}
 use Rattle.limits.proofs.sums.count_bytes.Tie as tie
 
 abbrev Inv-loop : tie.InvT-loop
-Inv-loop t start size n v sum₀ at₀ i₀ sum at i = (i ≤ n) × (at ≤ start + 20 * i) × (sum ≤ i) × (walkSum 0 (isByte t v) (after size) start n ≡ walkSum sum (isByte t v) (after size) at (n - i))
+Inv-loop t start size n v sum₀ at₀ i₀ sum at i =
+    (i ≤ n) × (at ≤ start + 20 * i) × (sum ≤ i) × (walkSum 0 (isByte t v) (after size) start n ≡ walkSum sum (isByte t v) (after size) at (n - i))
 
 abbrev μ-loop : tie.MeasureT-loop
 μ-loop t start size n v sum₀ at₀ i₀ sum at i = n - i

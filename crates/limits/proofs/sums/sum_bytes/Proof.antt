@@ -6,7 +6,8 @@ use Rattle.limits.proofs.sums.sum_bytes.Statement.{statement}
 use Rattle.limits.proofs.sums.sum_bytes.Tie as tie
 
 abbrev Inv-loop : tie.InvT-loop
-Inv-loop t start size n sum₀ at₀ i₀ sum at i = (i ≤ n) × (at ≤ start + 20 * i) × (sum ≤ 255 * i) × (walkSum 0 (byteAt t) (after size) start n ≡ walkSum sum (byteAt t) (after size) at (n - i))
+Inv-loop t start size n sum₀ at₀ i₀ sum at i =
+    (i ≤ n) × (at ≤ start + 20 * i) × (sum ≤ 255 * i) × (walkSum 0 (byteAt t) (after size) start n ≡ walkSum sum (byteAt t) (after size) at (n - i))
 
 abbrev μ-loop : tie.MeasureT-loop
 μ-loop t start size n sum₀ at₀ i₀ sum at i = n - i

@@ -3,6 +3,15 @@ use borrow.Author.Needs.{needs}
 use Rattle.words.proofs.bytes.read2.Statement.{statement}
 use Rattle.words.proofs.bytes.read2.Tie as tie
 
+add-if1 : tie.Need-add-if1
+add-if1 c = search needs
+
+whole2-requires : tie.Need-whole2-requires
+whole2-requires c κs = search needs
+
+returns : tie.Need-returns
+returns c = search needs
+
 byte-requires : tie.Need-byte-requires
 byte-requires c κs = search needs
 
@@ -24,14 +33,17 @@ mul-result c = search needs
 add-result : tie.Need-add-result
 add-result c = search needs
 
-returns : tie.Need-returns
+returns-2 : tie.Need-returns-2
 unfolding u16
-returns c = search needs
+returns-2 c = search needs
 
 pub read2-spec : {M : Type 1} → statement M
 read2-spec =
     tie.close
     (tie.spec
+    add-if1
+    whole2-requires
+    returns
     byte-requires
     add-byte
     byte-requires-2
@@ -39,4 +51,4 @@ read2-spec =
     cast-result-2
     mul-result
     add-result
-    returns)
+    returns-2)

@@ -3,6 +3,15 @@ use borrow.Author.Needs.{needs}
 use Rattle.words.proofs.bytes.read4.Statement.{statement}
 use Rattle.words.proofs.bytes.read4.Tie as tie
 
+add-if1 : tie.Need-add-if1
+add-if1 c = search needs
+
+whole4-requires : tie.Need-whole4-requires
+whole4-requires c κs = search needs
+
+returns : tie.Need-returns
+returns c = search needs
+
 read2-requires : tie.Need-read2-requires
 read2-requires c κs = search needs
 
@@ -24,14 +33,17 @@ mul-result c = search needs
 add-result : tie.Need-add-result
 add-result c = search needs
 
-returns : tie.Need-returns
+returns-2 : tie.Need-returns-2
 unfolding u32
-returns c = search needs
+returns-2 c = search needs
 
 pub read4-spec : {M : Type 1} → statement M
 read4-spec =
     tie.close
     (tie.spec
+    add-if1
+    whole4-requires
+    returns
     read2-requires
     add-read2
     read2-requires-2
@@ -39,4 +51,4 @@ read4-spec =
     cast-result-2
     mul-result
     add-result
-    returns)
+    returns-2)

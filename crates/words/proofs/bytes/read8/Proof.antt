@@ -3,6 +3,15 @@ use borrow.Author.Needs.{needs}
 use Rattle.words.proofs.bytes.read8.Statement.{statement}
 use Rattle.words.proofs.bytes.read8.Tie as tie
 
+add-if1 : tie.Need-add-if1
+add-if1 c = search needs
+
+whole8-requires : tie.Need-whole8-requires
+whole8-requires c κs = search needs
+
+returns : tie.Need-returns
+returns c = search needs
+
 read4-requires : tie.Need-read4-requires
 read4-requires c κs = search needs
 
@@ -24,14 +33,17 @@ mul-result c = search needs
 add-result : tie.Need-add-result
 add-result c = search needs
 
-returns : tie.Need-returns
+returns-2 : tie.Need-returns-2
 unfolding u64
-returns c = search needs
+returns-2 c = search needs
 
 pub read8-spec : {M : Type 1} → statement M
 read8-spec =
     tie.close
     (tie.spec
+    add-if1
+    whole8-requires
+    returns
     read4-requires
     add-read4
     read4-requires-2
@@ -39,4 +51,4 @@ read8-spec =
     cast-result-2
     mul-result
     add-result
-    returns)
+    returns-2)

@@ -1,0 +1,4 @@
+pub mod AnswerLaws
+pub mod Extra
+pub mod ItemLaws
+pub mod TallyLaws

@@ -1,0 +1,4 @@
+-- The definitions that the contracts cite.
+pub mod Tallies
+pub mod Items
+pub mod Answers

@@ -1,0 +1,8 @@
+pub mod Extra
+pub mod BitLaws
+pub mod FormLaws
+pub mod PartLaws
+pub mod OriginLaws
+pub mod PartsExact
+pub mod Accepted
+pub mod PointRows

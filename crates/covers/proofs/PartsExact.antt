@@ -1,0 +1,213 @@
+-- The cover bins of a point of a decoded table, by number, and the ranges of each.
+-- Assumes nothing.
+use mathlib.Core.Path.{_≡_, refl, sym, ap, ap₂, _∙_, subst}
+use mathlib.Core.Bool.{Bool, true, false, _&&_, cond}
+use mathlib.Core.List.{List, [], _∷_, _++_, map, append-nil}
+use Prim.Native.Nat.{ℕ, suc, _+_, _≤_, _<_}
+use native.Mathlib.Omega.{arith}
+use native.Mathlib.Numerals.{add-one}
+use lib.Dec.{eqb}
+use lib.ListN.{length, getD, replicate, length-append, length-map}
+use lib.Seq.{take-all}
+use borrow.Author.Tests.{eqb-true}
+use Rattle.model.specs.Lists.{upFrom}
+use Rattle.model.specs.Table.{Point, Kind, cover, ignore, illegal, default, Form, single, perValue, fixed, Range, span, ValueBin, Table, isCover, noValueBin}
+use Rattle.model.specs.Values.{lowest, highest, binCount, distinctValues}
+use Rattle.model.specs.Counters.{CoverBin, listed, auto, Counter, valueBin, pointAt, valueBinAt, pointOf, autoCount, hasAuto, binCounters, valueCounters, autoCounters, transitionCounters, pointCounters, coverBins}
+use Rattle.model.specs.Ranges.{noValue, firstValues, portionRanges, binRanges, rangeCount, coverRanges}
+use Rattle.model.proofs.Readers.{All, all-append}
+use Rattle.model.proofs.Runs.{length-upFrom}
+use Rattle.model.proofs.WellFormed.{GoodBin, WellFormed}
+use Rattle.model.proofs.Exact.{first-exact, Divisible}
+use Rattle.model.proofs.TableExact.{point-at, divisible}
+use Rattle.model.proofs.Limits.{covers-append, covers-map, no-covers}
+use Rattle.arrays.specs.Flat.{covers, origin}
+use Rattle.values.proofs.FlagsExact.{map-append, map-map}
+use Rattle.covers.specs.Parts.{oneValue, valueParts, portionParts, parts, ownParts, partsIn, autoParts, originsIn}
+use Rattle.covers.proofs.Extra.{map-upFrom, map-same-number}
+use Rattle.covers.proofs.FormLaws.{portion-length}
+
+-- ---- the bins of a value bin, by number
+
+-- how many they are
+pub parts-count : (q : Point) (f : Form) (rs : List Range) → length (parts (lowest q) f rs) ≡ rangeCount q f rs
+unfolding parts valueParts
+parts-count q single rs = refl
+parts-count q perValue rs = length-map (firstValues q rs) oneValue
+parts-count q (fixed n) rs = portion-length n rs 0 n
+
+parts-numbered : (q : Point) (f : Form) (rs : List Range) → map (binRanges q f rs) (upFrom 0 (length (parts (lowest q) f rs))) ≡ parts (lowest q) f rs
+unfolding parts valueParts portionParts upFrom
+parts-numbered q single rs = refl
+parts-numbered q perValue rs =
+    ap (λ (n : ℕ). map (binRanges q perValue rs) (upFrom 0 n)) (length-map (firstValues q rs) oneValue)
+    ∙ map-upFrom oneValue noValue (firstValues q rs)
+parts-numbered q (fixed n) rs = ap (λ (m : ℕ). map (binRanges q (fixed n) rs) (upFrom 0 m)) (portion-length n rs 0 n)
+
+-- ---- the bins of some value bins, which are numbered from b on
+
+numbered : ℕ → ℕ → ℕ → List ValueBin → List CoverBin
+numbered low p b [] = []
+numbered low p b (v ∷ vs) = map (listed b) (upFrom 0 (length (ownParts low p v))) ++ numbered low p (suc b) vs
+
+-- by what each comes of
+numbered-origins : (low p b : ℕ) (vs : List ValueBin) → map origin (numbered low p b vs) ≡ originsIn low p b vs
+unfolding numbered originsIn
+numbered-origins low p b [] = refl
+numbered-origins low p b (v ∷ vs) =
+    map-append origin (map (listed b) (upFrom 0 (length (ownParts low p v)))) (numbered low p (suc b) vs)
+    ∙ ap₂ _++_ (map-same-number origin (listed b) b (λ k. refl) 0 (length (ownParts low p v)))
+    (numbered-origins low p (suc b) vs ∙ ap (λ (i : ℕ). originsIn low p i vs) (sym (add-one b)))
+
+module _ (t : Table) (p : ℕ) where
+  q : Point
+  q = pointAt t p
+
+  Own : CoverBin → Type 0
+  Own c = pointOf t c ≡ p
+
+  own-row : (f : ℕ → CoverBin) → ((k : ℕ) → Own (f k)) → (ks : List ℕ) → All Own (map f ks)
+  own-row f h [] = tt
+  own-row f h (k ∷ ks) = (h k, own-row f h ks)
+
+  abbrev At : ℕ → List ValueBin → Type 0
+  At b vs = (i : ℕ) → i < length vs → getD vs i noValueBin ≡ valueBinAt t (b + i)
+
+  at-next : (b : ℕ) (v : ValueBin) (vs : List ValueBin) → At b (v ∷ vs) → At (suc b) vs
+  at-next b v vs h i k = h (suc i) (omega arith) ∙ ap (valueBinAt t) (let z : b + suc i ≡ suc b + i = omega arith in z)
+
+  at-here : (b : ℕ) (v : ValueBin) (vs : List ValueBin) → At b (v ∷ vs) → v ≡ valueBinAt t b
+  at-here b v vs h = h 0 (omega arith) ∙ ap (valueBinAt t) (let z : b + 0 ≡ b = omega arith in z)
+
+  numbered-own : (b : ℕ) (vs : List ValueBin) → At b vs → All Own (numbered (lowest q) p b vs)
+  unfolding numbered Own ownParts
+  numbered-own b [] h = tt
+  numbered-own b (v ∷ vs) h =
+      all-append Own (map (listed b) (upFrom 0 (length (ownParts (lowest q) p v)))) (numbered (lowest q) p (suc b) vs) (go (eqb (v .point) p) refl) (numbered-own (suc b) vs (at-next b v vs h))
+    where
+      go : (c : Bool) → eqb (v .point) p ≡ c → All Own (map (listed b) (upFrom 0 (length (cond (c && isCover (v .kind)) (parts (lowest q) (v .form) (v .ranges)) []))))
+      go true e = own-row (listed b) (λ k. ap (λ (x : ValueBin). x .point) (sym (at-here b v vs h)) ∙ eqb-true (v .point) p e) (upFrom 0 (length (cond (isCover (v .kind)) (parts (lowest q) (v .form) (v .ranges)) [])))
+      go false e = unfold upFrom in tt
+
+  -- by the ranges of each
+  numbered-parts : (b : ℕ) (vs : List ValueBin) → At b vs → map (coverRanges t) (numbered (lowest q) p b vs) ≡ partsIn (lowest q) p vs
+  unfolding numbered partsIn ownParts
+  numbered-parts b [] h = refl
+  numbered-parts b (v ∷ vs) h =
+      map-append (coverRanges t) (map (listed b) (upFrom 0 (length (ownParts (lowest q) p v)))) (numbered (lowest q) p (suc b) vs)
+      ∙ ap₂ _++_ (go (eqb (v .point) p) refl (isCover (v .kind))) (numbered-parts (suc b) vs (at-next b v vs h))
+    where
+      go : (c : Bool) → eqb (v .point) p ≡ c → (d : Bool)
+          → map (coverRanges t) (map (listed b) (upFrom 0 (length (cond (c && d) (parts (lowest q) (v .form) (v .ranges)) [])))) ≡ cond (c && d) (parts (lowest q) (v .form) (v .ranges)) []
+      go false e d = unfold upFrom in refl
+      go true e false = unfold upFrom in refl
+      go true e true =
+          map-map (coverRanges t) (listed b) (binRanges q (v .form) (v .ranges)) one (upFrom 0 (length (parts (lowest q) (v .form) (v .ranges))))
+          ∙ parts-numbered q (v .form) (v .ranges)
+        where
+          one : (k : ℕ) → coverRanges t (listed b k) ≡ binRanges q (v .form) (v .ranges) k
+          one k = unfold coverRanges q in
+              (ap (λ (x : ValueBin). binRanges (pointAt t (x .point)) (x .form) (x .ranges) k) (sym (at-here b v vs h))
+              ∙ ap (λ (n : ℕ). binRanges (pointAt t n) (v .form) (v .ranges) k) (eqb-true (v .point) p e))
+
+  -- ---- the cover bins are these
+
+  autos : Bool → List CoverBin
+  autos c = cond c (map (auto p) (upFrom 0 (autoCount q))) []
+
+  auto-covers : coverBins (autoCounters t p) ≡ autos (hasAuto t p)
+  unfolding autos q
+  auto-covers = go (hasAuto t p)
+    where
+      go : (c : Bool) → coverBins (cond c (map (λ k. valueBin (auto p k)) (upFrom 0 (autoCount (pointAt t p)))) []) ≡ cond c (map (auto p) (upFrom 0 (autoCount (pointAt t p)))) []
+      go true = covers-map (auto p) (upFrom 0 (autoCount (pointAt t p)))
+      go false = unfold coverBins in refl
+
+  auto-origins : (c : Bool) → map origin (autos c) ≡ replicate (length (autoParts c (lowest q) (highest q) (autoCount q))) 65535
+  unfolding autos autoParts
+  auto-origins true = map-same-number origin (auto p) 65535 (λ k. refl) 0 (autoCount q) ∙ ap (λ (n : ℕ). replicate n 65535) (sym (portion-length (autoCount q) (span (lowest q) (highest q) ∷ []) 0 (autoCount q)))
+  auto-origins false = refl
+
+  auto-ranges : (c : Bool) → map (coverRanges t) (autos c) ≡ autoParts c (lowest q) (highest q) (autoCount q)
+  unfolding autos autoParts portionParts q
+  auto-ranges true =
+      map-map (coverRanges t) (auto p) (λ k. portionRanges (autoCount (pointAt t p)) k (span (lowest (pointAt t p)) (highest (pointAt t p)) ∷ [])) (λ k. unfold coverRanges in refl) (upFrom 0 (autoCount (pointAt t p)))
+  auto-ranges false = refl
+
+  module _ (w : WellFormed t) where
+    counted : (f : Form) (rs : List Range) → Divisible (pointAt t p) (point-at t w p) f rs → binCount (pointAt t p) f rs ≤ 256 → binCount (pointAt t p) f rs ≡ length (parts (lowest q) f rs)
+    unfolding q
+    counted f rs h few = go f h few ∙ sym (parts-count (pointAt t p) f rs)
+      where
+        go : (f : Form) → Divisible (pointAt t p) (point-at t w p) f rs → binCount (pointAt t p) f rs ≤ 256 → binCount (pointAt t p) f rs ≡ rangeCount (pointAt t p) f rs
+        go single h few = refl
+        go (fixed n) h few = refl
+        go perValue h few =
+            sym (ap length (first-exact (pointAt t p) (point-at t w p) rs h ∙ take-all 257 (distinctValues (pointAt t p) rs) (omega arith)))
+
+    listed-covers : (b : ℕ) (vs : List ValueBin) → All (GoodBin (t .points)) vs → length (valueCounters t p b vs) ≤ 256 → coverBins (valueCounters t p b vs) ≡ numbered (lowest q) p b vs
+    unfolding valueCounters numbered ownParts
+    listed-covers b [] good few = unfold coverBins in refl
+    listed-covers b (v ∷ vs) good few =
+        covers-append mine (valueCounters t p (suc b) vs)
+        ∙ ap₂ _++_ (go (eqb (v .point) p) refl (omega (arith, long))) (listed-covers (suc b) vs (good .1) (omega (arith, long)))
+      where
+        n : ℕ
+        n = binCount (pointAt t p) (v .form) (v .ranges)
+
+        mine : List Counter
+        mine = cond (eqb (v .point) p) (binCounters b (v .kind) n) []
+
+        long : length (mine ++ valueCounters t p (suc b) vs) ≡ length mine + length (valueCounters t p (suc b) vs)
+        long = length-append mine (valueCounters t p (suc b) vs)
+
+        by-kind : (k : Kind) → v .point ≡ p → length (binCounters b k n) ≤ 256
+            → coverBins (binCounters b k n) ≡ map (listed b) (upFrom 0 (length (cond (isCover k) (parts (lowest q) (v .form) (v .ranges)) [])))
+        by-kind cover e few =
+            covers-map (listed b) (upFrom 0 n)
+            ∙ ap (λ (m : ℕ). map (listed b) (upFrom 0 m))
+            (counted (v .form) (v .ranges) (rw e at (divisible t w v (good .0))) (omega (arith, length-map (upFrom 0 n) (λ k. valueBin (listed b k)), length-upFrom 0 n)))
+        by-kind ignore e few = unfold coverBins upFrom in refl
+        by-kind illegal e few = unfold coverBins upFrom in refl
+        by-kind default e few = unfold coverBins upFrom in refl
+
+        go : (c : Bool) → eqb (v .point) p ≡ c → length (cond c (binCounters b (v .kind) n) []) ≤ 256
+            → coverBins (cond c (binCounters b (v .kind) n) []) ≡ map (listed b) (upFrom 0 (length (cond (c && isCover (v .kind)) (parts (lowest q) (v .form) (v .ranges)) [])))
+        go true e few = by-kind (v .kind) (eqb-true (v .point) p e) few
+        go false e few = unfold coverBins upFrom in refl
+
+    module _ (few : length (valueCounters t p 0 (t .valueBins)) ≤ 256) where
+      covers-numbered : covers t p ≡ numbered (lowest q) p 0 (t .valueBins) ++ autos (hasAuto t p)
+      unfolding covers pointCounters
+      covers-numbered =
+          let vs = valueCounters t p 0 (t .valueBins) in
+          covers-append (vs ++ autoCounters t p) (transitionCounters p 0 (t .transitionBins))
+          ∙ ap₂ _++_ (covers-append vs (autoCounters t p) ∙ ap₂ _++_ (listed-covers 0 (t .valueBins) (w .bins) few) auto-covers) (no-covers p 0 (t .transitionBins))
+          ∙ append-nil (numbered (lowest q) p 0 (t .valueBins) ++ autos (hasAuto t p))
+
+      whole : At 0 (t .valueBins)
+      whole i k = ap (valueBinAt t) (let z : i ≡ 0 + i = omega arith in z)
+
+      pub own-covers : All (λ c. pointOf t c ≡ p) (covers t p)
+      unfolding Own autos
+      own-covers =
+          subst (All Own) (sym covers-numbered)
+          (all-append Own (numbered (lowest q) p 0 (t .valueBins)) (autos (hasAuto t p)) (numbered-own 0 (t .valueBins) whole) (go (hasAuto t p)))
+        where
+          go : (c : Bool) → All Own (autos c)
+          go true = own-row (auto p) (λ k. refl) (upFrom 0 (autoCount q))
+          go false = tt
+
+      pub covers-ranges : map (coverRanges t) (covers t p)
+          ≡ partsIn (lowest (pointAt t p)) p (t .valueBins) ++ autoParts (hasAuto t p) (lowest (pointAt t p)) (highest (pointAt t p)) (autoCount (pointAt t p))
+      unfolding q
+      covers-ranges =
+          ap (map (coverRanges t)) covers-numbered ∙ map-append (coverRanges t) (numbered (lowest q) p 0 (t .valueBins)) (autos (hasAuto t p))
+          ∙ ap₂ _++_ (numbered-parts 0 (t .valueBins) whole) (auto-ranges (hasAuto t p))
+
+      pub covers-origins : map origin (covers t p)
+          ≡ originsIn (lowest (pointAt t p)) p 0 (t .valueBins) ++ replicate (length (autoParts (hasAuto t p) (lowest (pointAt t p)) (highest (pointAt t p)) (autoCount (pointAt t p)))) 65535
+      unfolding q
+      covers-origins =
+          ap (map origin) covers-numbered ∙ map-append origin (numbered (lowest q) p 0 (t .valueBins)) (autos (hasAuto t p))
+          ∙ ap₂ _++_ (numbered-origins (lowest q) p 0 (t .valueBins)) (auto-origins (hasAuto t p))

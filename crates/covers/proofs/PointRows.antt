@@ -1,0 +1,67 @@
+-- An array with the cover bins of point p from 256 p on, point after point.
+-- Assumes nothing.
+use mathlib.Core.Path.{_≡_, sym, ap, ap₂, _∙_}
+use mathlib.Core.List.{List, [], _∷_, map}
+use mathlib.Core.Logic.{⊎-elim, inl, inr}
+use Prim.Native.Nat.{ℕ, _+_, _-_, _*_, _≤_, _<_}
+use native.Mathlib.Decide.{decLe}
+use native.Mathlib.Omega.{arith}
+use native.Mathlib.Numerals.{add-one}
+use lib.ListN.{length, getD, length-map}
+use Rattle.model.specs.Lists.{upFrom}
+use Rattle.model.specs.Table.{Table}
+use Rattle.model.specs.Counters.{CoverBin, noCoverBin}
+use Rattle.words.proofs.Laws.{none-left, one-left}
+use Rattle.arrays.specs.Put.{put}
+use Rattle.model.specs.Register.{pointTotal}
+use Rattle.model.proofs.Runs.{length-upFrom}
+use Rattle.arrays.specs.Flat.{covers, coverCounts}
+use Rattle.covers.proofs.Extra.{getD-map, getD-put-in, getD-put-below}
+
+-- those of the first n points stand there
+abbrev pub Filled : (CoverBin → ℕ) → Table → ℕ → List ℕ → Type 0
+Filled f t n a = (p k : ℕ) → p < n → k < length (covers t p) → getD a (256 * p + k) 0 ≡ f (getD (covers t p) k noCoverBin)
+
+module _ (f : CoverBin → ℕ) (t : Table) where
+  pub filled-none : (a : List ℕ) → Filled f t 0 a
+  filled-none a p k h i = absurd (omega arith)
+
+  module _ (n : ℕ) (few : (p : ℕ) → p < n + 1 → length (covers t p) ≤ 256) (a b : List ℕ) (room : 256 * n + 256 ≤ length a) (e : b ≡ put (256 * n) (map f (covers t n)) a) (done : Filled f t n a) where
+    pub filled-turn : Filled f t (n + 1) b
+    filled-turn p k h i = ⊎-elim before here (elim (decLe n p) [ yes y ↦ inr y | no y ↦ inl (omega arith) ])
+      where
+        before : p < n → getD b (256 * p + k) 0 ≡ f (getD (covers t p) k noCoverBin)
+        before y =
+            ap (λ (l : List ℕ). getD l (256 * p + k) 0) e
+            ∙ getD-put-below (256 * n) (map f (covers t n)) a (256 * p + k) 0 (omega (arith, few p h)) (omega arith) ∙ done p k y i
+
+        here : n ≤ p → getD b (256 * p + k) 0 ≡ f (getD (covers t p) k noCoverBin)
+        here y =
+            let same : p ≡ n = omega arith in
+            let inside : k < length (covers t n) = rw same at i in
+            let long = length-map (covers t n) f in
+            ap₂ (λ (l : List ℕ) (q : ℕ). getD l (256 * q + k) 0) e same
+            ∙ getD-put-in (256 * n) (map f (covers t n)) a k 0 (omega arith) (omega (arith, few n (omega arith)))
+            ∙ getD-map f (covers t n) k noCoverBin 0 inside
+            ∙ ap (λ (q : ℕ). f (getD (covers t q) k noCoverBin)) (sym same)
+
+-- how many cover bins the points from p on have
+unfoldable pub countsFrom : Table → ℕ → ℕ → List ℕ
+countsFrom t p n = map (λ q. length (covers t q)) (upFrom p n)
+
+pub counts-turn : (t : Table) (p n : ℕ) → p < n → countsFrom t p (n - p) ≡ length (covers t p) ∷ countsFrom t (p + 1) (n - (p + 1))
+unfolding countsFrom upFrom
+counts-turn t p n h =
+    ap (countsFrom t p) (one-left n p h) ∙ ap (λ (i : ℕ). length (covers t p) ∷ map (λ q. length (covers t q)) (upFrom i (n - (p + 1)))) (sym (add-one p))
+
+pub counts-end : (t : Table) (p n : ℕ) → n ≤ p → countsFrom t p (n - p) ≡ []
+unfolding countsFrom upFrom
+counts-end t p n h = ap (countsFrom t p) (none-left n p h)
+
+pub counts-start : (t : Table) → countsFrom t 0 (pointTotal t - 0) ≡ coverCounts t
+unfolding countsFrom coverCounts
+counts-start t = ap (countsFrom t 0) (let z : pointTotal t - 0 ≡ pointTotal t = omega arith in z)
+
+pub counts-length : (t : Table) → length (coverCounts t) ≡ pointTotal t
+unfolding coverCounts
+counts-length t = length-map (upFrom 0 (pointTotal t)) (λ q. length (covers t q)) ∙ length-upFrom 0 (pointTotal t)

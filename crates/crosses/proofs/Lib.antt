@@ -1,0 +1,5 @@
+pub mod Extra
+pub mod Laws
+pub mod Places
+pub mod FlagsExact
+pub mod Walks

@@ -1,0 +1,137 @@
+use Prim.Native.Nat.{ℕ, _≤_, _+_, _*_, _-_}
+use mathlib.Core.Path.{_≡_, sym, ap, _∙_}
+use mathlib.Core.Bool.{true}
+use native.Mathlib.Nat.{sub-zero}
+use native.Mathlib.Omega.{arith}
+use Rattle.model.specs.Lists.{all}
+use Rattle.model.specs.Format.{byte, kindFrom}
+use Rattle.model.specs.Raw.{binsAt}
+use Rattle.limits.specs.Bins.{added, Entries, countable, binPoint, binCovers, binSingles, binBars}
+use Rattle.limits.proofs.KindLaws.{single-few, bar-few}
+use Rattle.limits.proofs.EntryLaws.{entries-more, entries-up, bins-start, bins-on, bins-done, bins-first, bins-others}
+use borrow.Author.Needs.{needs}
+use Rattle.limits.proofs.bins.add_bins.Statement.{statement}
+use Rattle.limits.proofs.bins.add_bins.Tie as tie
+
+abbrev Inv-loop : tie.InvT-loop
+Inv-loop covers₀ singles₀ bars₀ t points np bins ranges n b₀ r₀ i₀ covers singles bars b r i =
+    (i ≤ n) × (b ≤ bins + 8 * i) × (r ≤ ranges + 1114095 * i) × Entries (65535 * i) covers × Entries i singles × Entries i bars × (all (countable np) (binsAt t b r (n - i)) ≡ true)
+    × (added binPoint (binCovers t points) (binsAt t bins ranges n) covers₀ ≡ added binPoint (binCovers t points) (binsAt t b r (n - i)) covers)
+    × (added binPoint binSingles (binsAt t bins ranges n) singles₀ ≡ added binPoint binSingles (binsAt t b r (n - i)) singles)
+    × (added binPoint binBars (binsAt t bins ranges n) bars₀ ≡ added binPoint binBars (binsAt t b r (n - i)) bars)
+
+abbrev μ-loop : tie.MeasureT-loop
+μ-loop covers₀ singles₀ bars₀ t points np bins ranges n b₀ r₀ i₀ covers singles bars b r i = n - i
+
+loop-holds : tie.Need-loop-holds Inv-loop μ-loop
+loop-holds c =
+    let a = c .before .before .before .before .args in
+    let pre = c .before .before .before .before .pre in (
+      search needs,
+      search needs,
+      search needs,
+      entries-up 0 _ _ (pre .1 .1 .0) (search needs),
+      entries-up 0 _ _ (pre .1 .1 .1) (search needs),
+      entries-up 0 _ _ (pre .1 .1 .2) (search needs),
+      ap (λ (m : ℕ). all (countable (a .np)) (binsAt (a .t .now) (a .bins) (a .ranges) m)) (sub-zero (a .n)) ∙ pre .1 .0,
+      bins-start _ (a .t .now) (a .bins) (a .ranges) (a .n) _,
+      bins-start _ (a .t .now) (a .bins) (a .ranges) (a .n) _,
+      bins-start _ (a .t .now) (a .bins) (a .ranges) (a .n) _,
+    )
+
+add-bin-requires : tie.Need-add-bin-requires Inv-loop μ-loop
+add-bin-requires c κs =
+    let a = c .before .before .before .before .before .before .before .before .before .args in
+    let l = c .before .before .before .before .loop in
+    let f = bins-first (a .t .now) (a .np) (l .b) (l .r) (a .n) (l .i) (l .inv .6) (search needs) in (
+      (search needs, search needs, search needs, omega (arith, f .0), c .before .before .before .before .before .before .before .before .before .pre .0 .5 _ (f .0)),
+      (f .1, (entries-up _ 50000000 _ (l .inv .3) (search needs), entries-up _ 1000 _ (l .inv .4) (search needs), entries-up _ 1000 _ (l .inv .5) (search needs))),
+    )
+
+add-read2 : tie.Need-add-read2 Inv-loop μ-loop
+add-read2 c = search needs
+
+read2-requires : tie.Need-read2-requires Inv-loop μ-loop
+read2-requires c κs = search needs
+
+add-b : tie.Need-add-b Inv-loop μ-loop
+add-b c = search needs
+
+cast-r : tie.Need-cast-r Inv-loop μ-loop
+cast-r c = search needs
+
+mul-r : tie.Need-mul-r Inv-loop μ-loop
+mul-r c = search needs
+
+add-r : tie.Need-add-r Inv-loop μ-loop
+add-r c = search needs
+
+add-i : tie.Need-add-i Inv-loop μ-loop
+add-i c = search needs
+
+loop-less : tie.Need-loop-less Inv-loop μ-loop
+loop-less c = search needs
+
+loop-again : tie.Need-loop-again Inv-loop μ-loop
+loop-again c =
+    let a = c .before .before .before .before .before .before .before .before .before .before .before .before .before .before .before .before .before .args in
+    let l = c .before .before .before .before .before .before .before .before .before .before .before .before .loop in
+    let e = c .before .before .before .before .before .before .before .add-bin .ensures in
+    let r = ap (λ (k : ℕ). l .r + 17 * k) (c .read2 .ensures) in
+    let kind = kindFrom (byte (a .t .now) (l .b + 1)) in (
+      search needs,
+      search needs,
+      search needs,
+      entries-more _ 65535 _ _ _ _ _ (l .inv .3) (e .1 .1 .1) (search needs) (e .0),
+      entries-more _ 1 _ _ _ _ _ (l .inv .4) (single-few kind) (search needs) (e .1 .0),
+      entries-more _ 1 _ _ _ _ _ (l .inv .5) (bar-few kind) (search needs) (e .1 .1 .0),
+      bins-others (a .t .now) (a .np) (l .b) (l .r) (a .n) (l .i) (l .inv .6) (search needs) _ r,
+      bins-on _ (a .t .now) (l .b) (l .r) (a .n) (l .i) _ _ (l .inv .7) (search needs) _ _ r (e .0),
+      bins-on _ (a .t .now) (l .b) (l .r) (a .n) (l .i) _ _ (l .inv .8) (search needs) _ _ r (e .1 .0),
+      bins-on _ (a .t .now) (l .b) (l .r) (a .n) (l .i) _ _ (l .inv .9) (search needs) _ _ r (e .1 .1 .0),
+    )
+
+same-length : tie.Need-same-length Inv-loop μ-loop
+same-length c = c .before .loop .inv .3 .count ∙ sym (c .before .before .before .before .before .before .pre .1 .1 .0 .count)
+
+same-length-2 : tie.Need-same-length-2 Inv-loop μ-loop
+same-length-2 c = c .before .loop .inv .4 .count ∙ sym (c .before .before .before .before .before .before .pre .1 .1 .1 .count)
+
+same-length-3 : tie.Need-same-length-3 Inv-loop μ-loop
+same-length-3 c = c .before .loop .inv .5 .count ∙ sym (c .before .before .before .before .before .before .pre .1 .1 .2 .count)
+
+returns : tie.Need-returns Inv-loop μ-loop
+returns c =
+    let a = c .before .before .before .before .before .before .args in
+    let l = c .before .loop in (
+      bins-done _ (a .t .now) (l .b) (l .r) (a .n) (l .i) _ _ (l .inv .7) (search needs),
+      (
+        bins-done _ (a .t .now) (l .b) (l .r) (a .n) (l .i) _ _ (l .inv .8) (search needs),
+        (
+          bins-done _ (a .t .now) (l .b) (l .r) (a .n) (l .i) _ _ (l .inv .9) (search needs),
+          (entries-up _ _ _ (l .inv .3) (search needs), entries-up _ _ _ (l .inv .4) (search needs), entries-up _ _ _ (l .inv .5) (search needs)),
+        ),
+      ),
+    )
+
+pub add-bins-spec : {M : Type 1} → statement M
+add-bins-spec =
+    tie.close
+    (tie.spec
+    Inv-loop
+    μ-loop
+    loop-holds
+    add-bin-requires
+    add-read2
+    read2-requires
+    add-b
+    cast-r
+    mul-r
+    add-r
+    add-i
+    loop-less
+    loop-again
+    same-length
+    same-length-2
+    same-length-3
+    returns)

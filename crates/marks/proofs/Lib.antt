@@ -1,0 +1,7 @@
+pub mod Extra
+pub mod Walks
+pub mod Rows
+pub mod Adding
+pub mod Selected
+pub mod Accepted
+pub mod Exact

@@ -1,0 +1,160 @@
+-- The rows of the leaves.
+-- Assumes nothing.
+use mathlib.Core.Path.{_≡_, refl, ap, ap₂, sym, _∙_}
+use mathlib.Core.Bool.{Bool, true, false}
+use mathlib.Core.List.{List, [], _∷_}
+use Prim.Native.Nat.{ℕ, zero, suc, _+_, _-_, _*_, _≤_, _<_}
+use native.Mathlib.Omega.{arith}
+use lib.Dec.{eqb, leb}
+use lib.ListN.{length, getD, drop, replicate, length-replicate, getD-replicate, length-drop, List·getD-eq-default}
+use lib.Seq.{getD-drop}
+use borrow.Author.Tests.{eqb-true, eq-eqb, ne-eqb, leb-true, leb-false}
+use Rattle.model.specs.Lists.{upFrom, pairUp, all, asBit}
+use Rattle.model.specs.Table.{Table}
+use Rattle.model.specs.Values.{fieldValue}
+use Rattle.model.specs.Counters.{CoverBin, listed, auto, noCoverBin, isFrom, meets, Counter, valueBin, defaultBin, illegalBin, transition, illegalTransition, crossBin, illegalCross, product, coverBins, pointCounters, productCount, withinLimits}
+use Rattle.model.specs.Format.{byte, u16, u64, accepted, tableOf}
+use Rattle.model.specs.Register.{pointTotal}
+use Rattle.model.proofs.Booleans.{and-left, bool-eq}
+use Rattle.model.proofs.Sections.{acceptance, accepted-decodes}
+use Rattle.model.proofs.Limits.{all-from}
+use Rattle.arrays.specs.Put.{put}
+use Rattle.arrays.specs.Flat.{covers, origin, Origins, meetBit}
+use Rattle.selects.specs.Told.{leafBit}
+use Rattle.marks.specs.Tokens.{tokenPoint, tokenBit, RowTold, RowsTold, Kept, namedBit, namedFrom}
+use Rattle.marks.proofs.Extra.{length-numbers, getD-numbers, put-in, put-before}
+
+-- ---- the cover bins of a point are at most 256
+
+covers-fewer : (xs : List Counter) → length (coverBins xs) ≤ length xs
+unfolding coverBins
+covers-fewer [] = omega arith
+covers-fewer (valueBin c ∷ xs) = let h = covers-fewer xs in omega arith
+covers-fewer (defaultBin b ∷ xs) = let h = covers-fewer xs in omega arith
+covers-fewer (illegalBin b ∷ xs) = let h = covers-fewer xs in omega arith
+covers-fewer (transition b ∷ xs) = let h = covers-fewer xs in omega arith
+covers-fewer (illegalTransition b ∷ xs) = let h = covers-fewer xs in omega arith
+covers-fewer (crossBin c i ∷ xs) = let h = covers-fewer xs in omega arith
+covers-fewer (illegalCross c i ∷ xs) = let h = covers-fewer xs in omega arith
+covers-fewer (product c cs ∷ xs) = let h = covers-fewer xs in omega arith
+
+pub covers-few : (s : List ℕ) → accepted s ≡ true → (p : ℕ) → p < pointTotal (tableOf s) → length (covers (tableOf s) p) ≤ 256
+unfolding covers withinLimits
+covers-few s ok p h =
+    let t = tableOf s in
+    let points = all (λ q. leb (length (pointCounters t q)) 256) (upFrom 0 (length (t .points))) in
+    let crosses = all (λ c. leb (productCount t c) 1024) (upFrom 0 (length (t .crosses))) in
+    let few = leb-true (length (pointCounters t p)) 256 (all-from (λ q. leb (length (pointCounters t q)) 256) 0 (length (t .points)) (and-left points crosses (acceptance s t (accepted-decodes s ok) .limited)) p (omega arith) (omega arith)) in
+    omega (arith, covers-fewer (pointCounters t p))
+
+-- ---- a row of names
+
+same-test : (a b : ℕ) → eqb a b ≡ eqb b a
+same-test a b = bool-eq _ _ (λ e. eq-eqb b a (sym (eqb-true a b e))) (λ e. eq-eqb a b (sym (eqb-true b a e)))
+
+origin-from : (b : ℕ) (c : CoverBin) → b < 65535 → eqb (origin c) b ≡ isFrom b c
+origin-from b (listed b′ k) h = same-test b′ b
+origin-from b (auto p k) h = ne-eqb 65535 b (λ e. omega arith)
+
+-- ---- element by element
+
+pair-long : {A B C : Type 0} (f : A → B → C) (xs : List A) (ys : List B) (i : ℕ) → i < length xs → i < length ys → i < length (pairUp f xs ys)
+unfolding pairUp
+pair-long f [] ys i h k = absurd (let z : i < 0 = h in omega arith)
+pair-long f (x ∷ xs) [] i h k = absurd (let z : i < 0 = k in omega arith)
+pair-long f (x ∷ xs) (y ∷ ys) zero h k = omega arith
+pair-long f (x ∷ xs) (y ∷ ys) (suc i) h k = let z = pair-long f xs ys i (omega arith) (omega arith) in omega arith
+
+pair-at : {A B C : Type 0} (f : A → B → C) (xs : List A) (ys : List B) (i : ℕ) (a : A) (b : B) (c : C) → i < length xs → i < length ys
+    → getD (pairUp f xs ys) i c ≡ f (getD xs i a) (getD ys i b)
+unfolding pairUp
+pair-at f [] ys i a b c h k = absurd (let z : i < 0 = h in omega arith)
+pair-at f (x ∷ xs) [] i a b c h k = absurd (let z : i < 0 = k in omega arith)
+pair-at f (x ∷ xs) (y ∷ ys) zero a b c h k = refl
+pair-at f (x ∷ xs) (y ∷ ys) (suc i) a b c h k = pair-at f xs ys i a b c (omega arith) (omega arith)
+
+-- an element that is 1 stands in the list
+stands-in : (l : List ℕ) (i : ℕ) → getD l i 0 ≡ 1 → i < length l
+stands-in l i e = go (leb (length l) i) refl
+  where
+    go : (b : Bool) → leb (length l) i ≡ b → i < length l
+    go true q = absurd (let z : getD l i 0 ≡ 0 = List·getD-eq-default l 0 (leb-true (length l) i q) in omega arith)
+    go false q = leb-false (length l) i q
+
+-- ---- the row of one token
+
+module _ (t : Table) (s gate : List ℕ) (c at row : ℕ) (l l′ : List ℕ) (room : row + 256 ≤ length l) where
+  abbrev mine : List CoverBin
+  mine = covers t (tokenPoint s c at)
+
+  told : (xs : List ℕ) → l′ ≡ put row xs l
+      → ((d : ℕ) → d < length mine → getD gate (256 * tokenPoint s c at + d) 0 ≡ 1 → (d < length xs) × (getD xs d 0 ≡ tokenBit t s at (getD mine d noCoverBin)))
+      → RowTold t s gate c at row l′ × Kept row l l′
+  unfolding RowTold Kept
+  told xs e f = (
+    (λ d h g. ap (λ (x : List ℕ). getD x (row + d) 0) e ∙ put-in row xs l d 0 (omega arith) (f d h g .0) ∙ f d h g .1),
+    (λ i h. ap (λ (x : List ℕ). getD x i 0) e ∙ put-before row xs l i 0 (omega arith) h),
+  )
+
+  module _ (few : length (covers t (tokenPoint s c at)) ≤ 256) where
+    pub row-named : (origins : List ℕ) (b p : ℕ) → p ≡ tokenPoint s c at → b ≡ u16 s (at + 2) → byte s at ≡ 1 → u16 s (at + 2) < 65535
+        → tokenPoint s c at < pointTotal t → Origins t origins → l′ ≡ put row (namedFrom origins b (256 * p) 256) l → RowTold t s gate c at row l′ × Kept row l l′
+    unfolding namedFrom Origins
+    row-named origins b p ep eb op small inside from e =
+        told (namedFrom origins b (256 * p) 256) e λ d h g. (
+          omega (arith, length-numbers (namedBit origins b) (256 * p) 256),
+          getD-numbers (namedBit origins b) (256 * p) 256 d 0 (omega arith)
+              ∙ ap₂ (λ (x y : ℕ). asBit (eqb (getD origins (256 * x + d) 0) y)) ep eb
+              ∙ ap (λ (x : ℕ). asBit (eqb x (u16 s (at + 2)))) (from (tokenPoint s c at) d inside h)
+              ∙ ap asBit (origin-from (u16 s (at + 2)) (getD mine d noCoverBin) small)
+              ∙ sym (named (getD mine d noCoverBin)),
+        )
+      where
+        named : (x : CoverBin) → tokenBit t s at x ≡ asBit (isFrom (u16 s (at + 2)) x)
+        named x = rw op
+
+    pub row-same : (v : ℕ) → v ≡ asBit (eqb (byte s at) 0) → (byte s at ≡ 1 → ⊥) → (byte s at ≡ 2 → ⊥) → l′ ≡ put row (replicate 256 v) l → RowTold t s gate c at row l′ × Kept row l l′
+    row-same v ev n₁ n₂ e =
+        told (replicate 256 v) e λ d h g. (
+          omega (arith, length-replicate {A = ℕ} 256 v),
+          getD-replicate 256 d v 0 (omega arith) ∙ ev ∙ sym (other (byte s at) n₁ n₂ (getD mine d noCoverBin)),
+        )
+      where
+        other : (op : ℕ) → (op ≡ 1 → ⊥) → (op ≡ 2 → ⊥) → (x : CoverBin) → leafBit (meets t) (x ∷ []) op 0 (u16 s (at + 2)) (fieldValue (u64 s (at + 4))) (fieldValue (u64 s (at + 12))) ≡ asBit (eqb op 0)
+        other zero n₁ n₂ x = refl
+        other (suc zero) n₁ n₂ x = absurd (n₁ refl)
+        other (suc (suc zero)) n₁ n₂ x = absurd (n₂ refl)
+        other (suc (suc (suc n))) n₁ n₂ x = sym (ap asBit (ne-eqb (suc (suc (suc n))) 0 (λ z. omega arith)))
+
+  pub row-meets : (lo hi p : ℕ) → p ≡ tokenPoint s c at → lo ≡ fieldValue (u64 s (at + 4)) → hi ≡ fieldValue (u64 s (at + 12)) → byte s at ≡ 2
+      → l′ ≡ put row (pairUp (meetBit t lo hi) (covers t p) (drop (256 * p) gate)) l → RowTold t s gate c at row l′ × Kept row l l′
+  row-meets lo hi p ep el eh op e =
+      told _ (e ∙ ap (λ (x : ℕ). put row (pairUp (meetBit t lo hi) (covers t x) (drop (256 * x) gate)) l) ep) λ d h g.
+      let q = tokenPoint s c at in
+      let ys = drop (256 * q) gate in
+      let long : d < length ys = omega (arith, stands-in gate (256 * q + d) g, length-drop (256 * q) gate) in (
+        pair-long (meetBit t lo hi) mine ys d h long,
+        pair-at (meetBit t lo hi) mine ys d noCoverBin 0 0 h long
+            ∙ ap (meetBit t lo hi (getD mine d noCoverBin)) (getD-drop (256 * q) gate d 0 ∙ g)
+            ∙ ap₂ (λ (x y : ℕ). asBit (meets t (getD mine d noCoverBin) x y)) el eh
+            ∙ sym (meeting (getD mine d noCoverBin)),
+      )
+    where
+      meeting : (x : CoverBin) → tokenBit t s at x ≡ asBit (meets t x (fieldValue (u64 s (at + 4))) (fieldValue (u64 s (at + 12))))
+      meeting x = rw op
+
+-- ---- the rows of some tokens
+
+pub no-rows : (t : Table) (s gate : List ℕ) (c k : ℕ) (l : List ℕ) → RowsTold t s gate c k 0 l
+unfolding RowsTold
+no-rows t s gate c k l j h = absurd (let z : j < 0 = h in omega arith)
+
+-- one row more
+module _ (t : Table) (s gate : List ℕ) (c k n : ℕ) (few : (j : ℕ) → j < n → length (covers t (tokenPoint s c (k + 20 * j))) ≤ 256) (l l′ : List ℕ) where
+  pub rows-more : RowsTold t s gate c k n l → RowTold t s gate c (k + 20 * n) (256 * n) l′ → Kept (256 * n) l l′ → RowsTold t s gate c k (n + 1) l′
+  unfolding RowsTold RowTold Kept
+  rows-more old new kept j h d inside g = go (leb n j) refl
+    where
+      go : (b : Bool) → leb n j ≡ b → getD l′ (256 * j + d) 0 ≡ tokenBit t s (k + 20 * j) (getD (covers t (tokenPoint s c (k + 20 * j))) d noCoverBin)
+      go true q = let z : n ≡ j = omega (arith, leb-true n j q) in (rw z at new) d inside g
+      go false q = let y = leb-false n j q in kept (256 * j + d) (omega (arith, few j y)) ∙ old j y d inside g

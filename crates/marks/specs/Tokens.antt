@@ -1,0 +1,81 @@
+-- The truth of a cross bin's tokens. Row j of the leaves, 256 bytes, is that of token j for each cover bin of the point at the token's position.
+-- The cross's record stands at c, the tokens from k on.
+-- Assumes nothing.
+use Prim.Native.Nat.{ℕ, _+_, _*_, _<_, _≤_}
+use mathlib.Core.Path.{_≡_}
+use mathlib.Core.Bool.{Bool, true}
+use mathlib.Core.List.{List, [], _∷_, map}
+use lib.Dec.{eqb}
+use lib.ListN.{length, getD, replicate}
+use Rattle.model.specs.Lists.{upFrom, asBit}
+use Rattle.model.specs.Table.{Table}
+use Rattle.model.specs.Values.{lowest, fieldValue}
+use Rattle.model.specs.Counters.{CoverBin, noCoverBin, pointAt, meets}
+use Rattle.model.specs.Format.{byte, u16, u64, accepted, tableOf}
+use Rattle.model.specs.Register.{pointTotal}
+use Rattle.arrays.specs.Put.{put}
+use Rattle.arrays.specs.Flat.{covers, Origins}
+use Rattle.selects.specs.Told.{leafBit}
+use Rattle.selects.specs.Evaluator.{valueOf}
+
+-- the point at the position of the token at `at`
+abbrev pub tokenPoint : List ℕ → ℕ → ℕ → ℕ
+tokenPoint s c at = byte s (c + 1 + byte s (at + 1))
+
+-- the token's truth for a cover bin of that point
+abbrev pub tokenBit : Table → List ℕ → ℕ → CoverBin → ℕ
+tokenBit t s at b = leafBit (meets t) (b ∷ []) (byte s at) 0 (u16 s (at + 2)) (fieldValue (u64 s (at + 4))) (fieldValue (u64 s (at + 12)))
+
+-- the row that stands from `row` on tells it of each cover bin whose gate is 1
+unfoldable pub RowTold : Table → List ℕ → List ℕ → ℕ → ℕ → ℕ → List ℕ → Type 0
+RowTold t s gate c at row leaves =
+    (d : ℕ) → d < length (covers t (tokenPoint s c at)) → getD gate (256 * tokenPoint s c at + d) 0 ≡ 1
+    → getD leaves (row + d) 0 ≡ tokenBit t s at (getD (covers t (tokenPoint s c at)) d noCoverBin)
+
+unfoldable pub RowsTold : Table → List ℕ → List ℕ → ℕ → ℕ → ℕ → List ℕ → Type 0
+RowsTold t s gate c k n leaves = (j : ℕ) → j < n → RowTold t s gate c (k + 20 * j) (256 * j) leaves
+
+-- the same elements before a place
+unfoldable pub Kept : ℕ → List ℕ → List ℕ → Type 0
+Kept n xs ys = (i : ℕ) → i < n → getD ys i 0 ≡ getD xs i 0
+
+-- 1 where the origin is b, for n cover bins from `from` on
+abbrev pub namedBit : List ℕ → ℕ → ℕ → ℕ
+namedBit origins b i = asBit (eqb (getD origins i 0) b)
+
+unfoldable pub namedFrom : List ℕ → ℕ → ℕ → ℕ → List ℕ
+namedFrom origins b from n = map (namedBit origins b) (upFrom from n)
+
+-- ---- what an accepted table grants
+
+-- the token's position is one of the cross, its bin is one of the table, its values are values of the point's type
+pub record Legal (s : List ℕ) (c at : ℕ) : Type 0 where
+  pub position : byte s (at + 1) < byte s c
+  pub bin : byte s at ≡ 1 → u16 s (at + 2) < 65535
+  pub least : byte s at ≡ 2 → lowest (pointAt (tableOf s) (tokenPoint s c at)) ≤ fieldValue (u64 s (at + 4))
+  pub low : byte s at ≡ 2 → fieldValue (u64 s (at + 4)) ≤ 8589934592
+  pub high : byte s at ≡ 2 → fieldValue (u64 s (at + 12)) ≤ 8589934591
+
+unfoldable pub TokensLegal : List ℕ → ℕ → ℕ → ℕ → Type 0
+TokensLegal s c k n = (j : ℕ) → j < n → Legal s c (k + 20 * j)
+
+-- the table is accepted, the cross's points are points of it, and the flat arrays belong to it
+pub record Ready (s : List ℕ) (c : ℕ) (gate origins : List ℕ) : Type 0 where
+  pub whole : accepted s ≡ true
+  pub points : (i : ℕ) → i < byte s c → byte s (c + 1 + i) < pointTotal (tableOf s)
+  pub gates : 4096 ≤ length gate
+  pub from : Origins (tableOf s) origins
+
+-- ---- one product
+
+-- the truth of token j for the product with these digits
+abbrev pub truthBit : List ℕ → ℕ → List ℕ → List ℕ → ℕ → ℕ
+truthBit s k leaves digits j = getD leaves (256 * j + getD digits (byte s (k + 20 * j + 1)) 0) 0
+
+-- of n tokens, in an array of 32
+unfoldable pub truthOf : List ℕ → ℕ → ℕ → List ℕ → List ℕ → List ℕ
+truthOf s k n leaves digits = put 0 (map (truthBit s k leaves digits) (upFrom 0 n)) (replicate 32 0)
+
+-- the n tokens select the product
+unfoldable pub selectsIt : List ℕ → ℕ → ℕ → List ℕ → List ℕ → Bool
+selectsIt s k n leaves digits = valueOf s (truthOf s k n leaves digits) k n

@@ -1,0 +1,13 @@
+pub mod Extra
+pub mod ReadingLaws
+pub mod Counted
+pub mod ValueLaws
+pub mod WordLaws
+pub mod TransitionLaws
+pub mod TransitionExact
+pub mod AllLaws
+pub mod KindLaws
+pub mod KindExact
+pub mod ItemLaws
+pub mod GateLaws
+pub mod SpreadLaws

@@ -1,0 +1,161 @@
+// What each counter of the points is, and where each point's counters begin.
+use arrays::put_same;
+use layout::Layout;
+use layout::layout_of;
+use values::flags::put_cover_at;
+use values::points::has_auto;
+use values::points::lowest_at;
+use values::points::put_autos;
+use words::bytes::byte;
+use words::bytes::read2;
+ghost use mathlib.Core.Path.{_≡_};
+ghost use mathlib.Core.Bool.{true};
+ghost use Prim.Native.Nat.{_<_, _≤_, _+_, _^_};
+ghost use lib.ListN.{length};
+ghost use Rattle.model.specs.Counters.{pointCounters};
+ghost use Rattle.model.specs.Format.{accepted, tableOf};
+ghost use Rattle.model.specs.Raw.{binAt, binsAt};
+ghost use Rattle.model.specs.Register.{pointTotal};
+ghost use Rattle.arrays.specs.Put.{put};
+ghost use Rattle.arrays.specs.Flat.{kindsOf, allPointCounters, pointStarts};
+ghost use Rattle.values.specs.Flags.{binFits, fits};
+ghost use Rattle.points.specs.Kinds.{plainKind, binKinds, kindsIn, transitionKinds, transitionKindsFrom, Placed};
+
+fn plain_kind(kind: u8) -> u8
+    ensures { λ r. ⌜ r ≡ plainKind kind ⌝ }
+{
+    if kind == 2 { 2 } else { 1 }
+}
+
+// The value bin at a, its ranges from r on, where it is one of point p. low: the lowest value of the point's type.
+fn put_bin_kinds(
+    kinds: &mut [u8],
+    cur: usize,
+    t: &[u8],
+    a: usize,
+    r: usize,
+    p: u8,
+    low: u64,
+) -> usize
+    requires { ⌜ (a < 2000000000) × (r < 2000000000) × (low < 2 ^ 60) × (binFits (binAt (now t) a r) ≡ true) × (cur + length (binKinds low p (binAt (now t) a r)) ≤ length (now kinds)) ⌝ }
+    ensures { λ e. ⌜ (e ≡ cur + length (binKinds low p (binAt (now (t .entry)) a r))) × (now (kinds .exit) ≡ put cur (binKinds low p (binAt (now (t .entry)) a r)) (now (kinds .entry))) ⌝ }
+{
+    let q = byte(t, a);
+    if q != p {
+        return cur;
+    }
+    let kind = byte(t, a + 1);
+    if kind == 1 {
+        return cur;
+    }
+    if kind == 0 {
+        return put_cover_at(kinds, cur, t, a, r, low, low, false);
+    }
+    put_same(kinds, cur, 1, plain_kind(kind))
+}
+
+// The value bins of point p among n bins from a on, their ranges from r on.
+fn put_value_kinds(
+    kinds: &mut [u8],
+    cur: usize,
+    t: &[u8],
+    a: usize,
+    r: usize,
+    n: usize,
+    p: u8,
+    low: u64,
+) -> usize
+    requires { ⌜ (a < 1000000000) × (r < 1000000000) × (n ≤ 512) × (low < 2 ^ 60) × (fits (binsAt (now t) a r n) ≡ true) ⌝ }
+    requires { ⌜ cur + length (kindsIn low p (binsAt (now t) a r n)) ≤ length (now kinds) ⌝ }
+    ensures { λ e. ⌜ (e ≡ cur + length (kindsIn low p (binsAt (now (t .entry)) a r n))) × (now (kinds .exit) ≡ put cur (kindsIn low p (binsAt (now (t .entry)) a r n)) (now (kinds .entry))) ⌝ }
+{
+    let mut c = cur;
+    let mut at = r;
+    let mut i = 0;
+    while i < n {
+        let here = a + 8 * i;
+        c = put_bin_kinds(kinds, c, t, here, at, p, low);
+        let k = read2(t, here + 6);
+        at += 17 * (k as usize);
+        i += 1;
+    }
+    c
+}
+
+// The transition bin at at, where it is one of point p.
+fn put_transition_kind(kinds: &mut [u8], cur: usize, t: &[u8], p: u8, at: usize) -> usize
+    requires { ⌜ (at < 2000000000) × (cur + length (transitionKinds (now t) p at) ≤ length (now kinds)) ⌝ }
+    ensures { λ e. ⌜ (e ≡ cur + length (transitionKinds (now (t .entry)) p at)) × (now (kinds .exit) ≡ put cur (transitionKinds (now (t .entry)) p at) (now (kinds .entry))) ⌝ }
+{
+    let q = byte(t, at);
+    if q != p {
+        return cur;
+    }
+    let kind = byte(t, at + 1);
+    if kind == 0 {
+        return put_same(kinds, cur, 1, 3);
+    }
+    if kind == 2 {
+        return put_same(kinds, cur, 1, 4);
+    }
+    cur
+}
+
+// The transition bins of point p among n bins from b on.
+fn put_transition_kinds(kinds: &mut [u8], cur: usize, t: &[u8], p: u8, b: usize, n: usize) -> usize
+    requires { ⌜ (b < 1000000000) × (n < 65536) × (cur + length (transitionKindsFrom (now t) p b 0 n) ≤ length (now kinds)) ⌝ }
+    ensures { λ e. ⌜ (e ≡ cur + length (transitionKindsFrom (now (t .entry)) p b 0 n)) × (now (kinds .exit) ≡ put cur (transitionKindsFrom (now (t .entry)) p b 0 n) (now (kinds .entry))) ⌝ }
+{
+    let mut c = cur;
+    let mut i = 0;
+    while i < n {
+        c = put_transition_kind(kinds, c, t, p, b + 4 * i);
+        i += 1;
+    }
+    c
+}
+
+// The counters of point p.
+fn put_kinds(kinds: &mut [u8], cur: usize, t: &[u8], l: Layout, p: u8) -> usize
+    requires { ⌜ (Placed (now t) l) × (p < pointTotal (tableOf (now t))) × (cur + 256 ≤ length (now kinds)) ⌝ }
+    ensures { λ r. ⌜ (r ≡ cur + length (pointCounters (tableOf (now (t .entry))) p)) × (now (kinds .exit) ≡ put cur (kindsOf (pointCounters (tableOf (now (t .entry))) p)) (now (kinds .entry))) ⌝ }
+{
+    let point = l.points + 11 * (p as usize);
+    let a = l.bins;
+    let n = l.bin_count;
+    let b = l.transitions;
+    let k = l.transition_count;
+    let low = lowest_at(t, point);
+    let has = has_auto(t, a, n, b, k, p);
+    let c = put_value_kinds(kinds, cur, t, a, l.ranges, n, p, low);
+    let d = put_autos(kinds, c, t, point, low, has, false);
+    put_transition_kinds(kinds, d, t, p, b, k)
+}
+
+// The counters of each point, and where they begin, by the places of the layout.
+fn put_each(kinds: &mut [u8], starts: &mut [u16], t: &[u8], l: Layout) -> usize
+    requires { ⌜ (Placed (now t) l) × (4096 ≤ length (now kinds)) × (17 ≤ length (now starts)) ⌝ }
+    ensures { λ r. ⌜ r ≡ length (allPointCounters (tableOf (now (t .entry)))) ⌝ }
+    ensures { λ _. ⌜ (now (kinds .exit) ≡ put 0 (kindsOf (allPointCounters (tableOf (now (t .entry))))) (now (kinds .entry))) × (now (starts .exit) ≡ put 0 (pointStarts (tableOf (now (t .entry)))) (now (starts .entry))) ⌝ }
+{
+    let n = l.point_count;
+    let mut c = 0;
+    let mut p: usize = 0;
+    while p < n {
+        starts[p] = c as u16;
+        c = put_kinds(kinds, c, t, l, p as u8);
+        p += 1;
+    }
+    starts[n] = c as u16;
+    c
+}
+
+// What each counter of the points is, and where each point's begin: how many there are.
+pub fn put_point_kinds(kinds: &mut [u8], starts: &mut [u16], t: &[u8]) -> usize
+    requires { ⌜ (accepted (now t) ≡ true) × (4096 ≤ length (now kinds)) × (17 ≤ length (now starts)) ⌝ }
+    ensures { λ r. ⌜ r ≡ length (allPointCounters (tableOf (now (t .entry)))) ⌝ }
+    ensures { λ _. ⌜ (now (kinds .exit) ≡ put 0 (kindsOf (allPointCounters (tableOf (now (t .entry))))) (now (kinds .entry))) × (now (starts .exit) ≡ put 0 (pointStarts (tableOf (now (t .entry)))) (now (starts .entry))) ⌝ }
+{
+    let l = layout_of(t);
+    put_each(kinds, starts, t, l)
+}

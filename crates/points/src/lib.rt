@@ -1,0 +1,8 @@
+// The points of an accepted table: their readings, and the flags, kinds and items of their counters and cover bins.
+pub mod gates;
+pub mod items;
+pub mod kinds;
+pub mod points;
+pub mod readings;
+pub mod spread;
+mod transitions;

@@ -1,0 +1,58 @@
+-- The calls whose tests were made for this table: what they ask of the table, and the model's answer in the code's types.
+-- Assumes nothing.
+use mathlib.Core.Path.{_≡_, refl, sym, ap, ap₂, _∙_}
+use mathlib.Core.Bool.{Bool, true}
+use mathlib.Core.List.{List}
+use mathlib.Core.Option.{Option, none, some}
+use Prim.Native.Nat.{ℕ, zero, suc, _+_, _≤_}
+use native.Mathlib.Omega.{arith}
+use lib.ListN.{length}
+use lib.Ieee.{Float}
+use borrow.Author.Tests.{le-leb}
+use Rattle.model.specs.Table.{Table}
+use Rattle.model.specs.Figures.{itemCount}
+use Rattle.model.specs.Format.{pointRecord, Outcome, decoded, decode, isDecoded, accepted, tableOf}
+use Rattle.model.specs.Raw.{crossesAt, recordCount, recordsPlace, rawTable}
+use Rattle.model.specs.Register.{wordsNeeded, longEnough, Answer, percent, millionths}
+use Rattle.model.proofs.RawLaws.{length-rows}
+use Rattle.model.proofs.RawExact.{raw-exact}
+use Rattle.layout.specs.Places.{layoutOf}
+use Rattle.layout.specs.declared.Layout.{Layout}
+use Rattle.figures.specs.Figures.{figureCase, groupCase}
+use Rattle.table.specs.declared.answer.Facts.{Facts}
+use Rattle.register.specs.Answers.{itemAnswer, groupAnswer}
+use Rattle.register.specs.Refusals.{Describes, wordsOf}
+use Rattle.register.proofs.RefusalLaws.{words-by}
+
+pub known-accepted : (s : List ℕ) → decode s ≡ decoded (tableOf s) → accepted s ≡ true
+unfolding accepted
+known-accepted s e = ap isDecoded e
+
+pub known-long : (f : Facts) (t : Table) (w : List ℕ) → Describes f t → wordsOf f ≤ length w → longEnough t w ≡ true
+known-long f t w d h = le-leb (wordsNeeded t) (length w) (omega (arith, words-by f w t d))
+
+-- ---- items
+
+length-crosses : (s : List ℕ) (c b k m : ℕ) → length (crossesAt s c b k m) ≡ m
+unfolding crossesAt
+length-crosses s c b k zero = refl
+length-crosses s c b k (suc m) = ap suc (length-crosses s (c + 13) _ _ m)
+
+-- the points and the crosses, as the layout has them
+pub items-known : (s : List ℕ) (l : Layout) → l ≡ layoutOf s → decode s ≡ decoded (tableOf s) → l .«point_count» + l .«cross_count» ≡ itemCount (tableOf s)
+unfolding layoutOf rawTable
+items-known s l e d =
+    ap (λ (x : Layout). x .«point_count» + x .«cross_count») e
+    ∙ ap₂ _+_ (sym (length-rows (pointRecord s) 11 (recordsPlace s 0) (recordCount s 0)))
+    (sym (length-crosses s (recordsPlace s 7) (recordsPlace s 8) (recordsPlace s 9) (recordCount s 7)))
+    ∙ sym (ap itemCount (raw-exact s (tableOf s) d))
+
+-- ---- figures
+
+pub item-answer : (o : Option Float) → itemAnswer (figureCase o) ≡ percent o
+item-answer none = refl
+item-answer (some p) = refl
+
+pub group-answer : (o : Option ℕ) → groupAnswer (groupCase o) ≡ millionths o
+group-answer none = refl
+group-answer (some m) = refl

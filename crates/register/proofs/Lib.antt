@@ -1,0 +1,7 @@
+pub mod Extra
+pub mod RefusalLaws
+pub mod SampleLaws
+pub mod CallLaws
+pub mod FigureLaws
+pub mod WordLaws
+pub mod Demand3

@@ -1,0 +1,201 @@
+// The calls on a register: the table's bytes and the register's words as they are lent. Each answers with a refusal number, 0 if the call is accepted;
+// a refused call writes nothing.
+pub mod refusals;
+mod zeros;
+
+use crate::refusals::counter_refusal;
+use crate::refusals::item_refusal;
+use crate::refusals::register_refusal;
+use crate::refusals::reset_refusal;
+use crate::refusals::sample_refusal;
+use crate::refusals::start_refusal;
+use crate::refusals::unknown_refusal;
+use crate::zeros::run;
+use figures::Figure;
+use figures::GroupFigure;
+use layout::layout_of;
+use samples::write::write_sample;
+use table::facts;
+ghost use mathlib.Core.Path.{_≡_};
+ghost use Rattle.model.specs.Register as Model;
+ghost use Rattle.register.specs.Answers.{itemAnswer, groupAnswer};
+
+// A refusal number, and a count.
+pub struct Counted {
+    pub number: u32,
+    pub count: u32,
+}
+
+// A refusal number, and an item's figure.
+pub struct ItemAnswer {
+    pub number: u32,
+    pub figure: Figure,
+}
+
+// A refusal number, and the group's figure.
+pub struct GroupAnswer {
+    pub number: u32,
+    pub figure: GroupFigure,
+}
+
+// Makes the register new: it runs, and every count is 0.
+pub fn reset(table: &[u8], register: &mut [u32]) -> u32
+    ensures { λ r. ⌜ r ≡ Model.call (now (table .entry)) (now (register .entry)) Model.reset .response .number ⌝ }
+    ensures { λ _. ⌜ now (register .exit) ≡ Model.call (now (table .entry)) (now (register .entry)) Model.reset .words ⌝ }
+{
+    let f = facts(table);
+    let number = reset_refusal(register, f);
+    if number != 0 {
+        return number;
+    }
+    let rest = 1 + f.counters + f.points + f.runs;
+    run(register, 1, rest);
+    0
+}
+
+// Lets the register run: a stopped one forgets the runs of its sequences.
+pub fn start(table: &[u8], register: &mut [u32]) -> u32
+    ensures { λ r. ⌜ r ≡ Model.call (now (table .entry)) (now (register .entry)) Model.start .response .number ⌝ }
+    ensures { λ _. ⌜ now (register .exit) ≡ Model.call (now (table .entry)) (now (register .entry)) Model.start .words ⌝ }
+{
+    let f = facts(table);
+    let number = start_refusal(register, f);
+    if number != 0 {
+        return number;
+    }
+    if register[0] == 1 {
+        return 0;
+    }
+    let at = 2 + f.counters + f.points;
+    let runs = f.runs;
+    run(register, at, runs);
+    0
+}
+
+pub fn stop(table: &[u8], register: &mut [u32]) -> u32
+    ensures { λ r. ⌜ r ≡ Model.call (now (table .entry)) (now (register .entry)) Model.stop .response .number ⌝ }
+    ensures { λ _. ⌜ now (register .exit) ≡ Model.call (now (table .entry)) (now (register .entry)) Model.stop .words ⌝ }
+{
+    let f = facts(table);
+    let number = start_refusal(register, f);
+    if number != 0 {
+        return number;
+    }
+    register[0] = 0;
+    0
+}
+
+// The count of a counter.
+pub fn place_count(table: &[u8], register: &[u32], place: usize) -> Counted
+    ensures { λ r. ⌜ r .number ≡ Model.call (now (table .entry)) (now (register .entry)) (Model.askCounter place) .response .number ⌝ }
+    ensures { λ r. ⌜ Model.counted (r .count) ≡ Model.call (now (table .entry)) (now (register .entry)) (Model.askCounter place) .response .answer ⌝ }
+{
+    let f = facts(table);
+    let number = counter_refusal(register, place, f);
+    if number != 0 {
+        return Counted {
+            number: number,
+            count: 0,
+        };
+    }
+    let count = register[2 + place];
+    Counted {
+        number: 0,
+        count: count,
+    }
+}
+
+// The count of a point's unknown readings.
+pub fn unknown_count(table: &[u8], register: &[u32], point: usize) -> Counted
+    ensures { λ r. ⌜ r .number ≡ Model.call (now (table .entry)) (now (register .entry)) (Model.askUnknown point) .response .number ⌝ }
+    ensures { λ r. ⌜ Model.counted (r .count) ≡ Model.call (now (table .entry)) (now (register .entry)) (Model.askUnknown point) .response .answer ⌝ }
+{
+    let f = facts(table);
+    let number = unknown_refusal(register, point, f);
+    if number != 0 {
+        return Counted {
+            number: number,
+            count: 0,
+        };
+    }
+    let counters = f.counters;
+    let count = register[2 + counters + point];
+    Counted {
+        number: 0,
+        count: count,
+    }
+}
+
+// Takes a sample: the counters that it hits count 1 more, and the report has a word for each illegal counter.
+pub fn sample(table: &[u8], register: &mut [u32], sample: &[u32], report: &mut [u32]) -> u32
+    ensures { λ r. ⌜ r ≡ Model.call (now (table .entry)) (now (register .entry)) (Model.sample (now (sample .entry)) (now (report .entry))) .response .number ⌝ }
+    ensures { λ _. ⌜ now (register .exit) ≡ Model.call (now (table .entry)) (now (register .entry)) (Model.sample (now (sample .entry)) (now (report .entry))) .words ⌝ }
+    ensures { λ _. ⌜ now (report .exit) ≡ Model.call (now (table .entry)) (now (register .entry)) (Model.sample (now (sample .entry)) (now (report .entry))) .response .report ⌝ }
+{
+    let f = facts(table);
+    let own = f.number;
+    if own != 0 {
+        return own;
+    }
+    let number = sample_refusal(table, register, sample, report, f);
+    if number != 0 {
+        return number;
+    }
+    write_sample(register, report, table, sample, f.counters, f.points);
+    0
+}
+
+// An item's figure: its coverage in percent, or none.
+pub fn item_figure(table: &[u8], register: &[u32], item: usize) -> ItemAnswer
+    ensures { λ r. ⌜ r .number ≡ Model.call (now (table .entry)) (now (register .entry)) (Model.askItem item) .response .number ⌝ }
+    ensures { λ r. ⌜ itemAnswer (r .figure) ≡ Model.call (now (table .entry)) (now (register .entry)) (Model.askItem item) .response .answer ⌝ }
+{
+    let f = facts(table);
+    let own = f.number;
+    if own != 0 {
+        return ItemAnswer {
+            number: own,
+            figure: Figure::Nothing,
+        };
+    }
+    let l = layout_of(table);
+    let number = item_refusal(register, item, l.point_count + l.cross_count, f);
+    if number != 0 {
+        return ItemAnswer {
+            number: number,
+            figure: Figure::Nothing,
+        };
+    }
+    let figure = coverage::figure::item_figure(table, register, item, f.counters);
+    ItemAnswer {
+        number: 0,
+        figure: figure,
+    }
+}
+
+// The group's figure: its coverage in millionths of a percent, or none.
+pub fn group_figure(table: &[u8], register: &[u32]) -> GroupAnswer
+    ensures { λ r. ⌜ r .number ≡ Model.call (now (table .entry)) (now (register .entry)) Model.askGroup .response .number ⌝ }
+    ensures { λ r. ⌜ groupAnswer (r .figure) ≡ Model.call (now (table .entry)) (now (register .entry)) Model.askGroup .response .answer ⌝ }
+{
+    let f = facts(table);
+    let own = f.number;
+    if own != 0 {
+        return GroupAnswer {
+            number: own,
+            figure: GroupFigure::Missing,
+        };
+    }
+    let number = register_refusal(register, f);
+    if number != 0 {
+        return GroupAnswer {
+            number: number,
+            figure: GroupFigure::Missing,
+        };
+    }
+    let figure = coverage::figure::group_figure(table, register, f.counters);
+    GroupAnswer {
+        number: 0,
+        figure: figure,
+    }
+}

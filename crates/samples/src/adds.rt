@@ -1,0 +1,41 @@
+// Counts that are raised by what the sample hits.
+ghost use mathlib.Core.Path.{_≡_};
+ghost use mathlib.Core.Bool.{true};
+ghost use Prim.Native.Nat.{_<_, _≤_, _+_};
+ghost use lib.ListN.{length, take, drop};
+ghost use Rattle.model.specs.Lists.{asBit};
+ghost use Rattle.arrays.specs.Put.{put};
+ghost use Rattle.samples.specs.Adds.{addHits, isSet, isUnknownCode, allRoom};
+
+fn raised(n: u32, hit: bool) -> u32
+    requires { ⌜ n < 4294967295 ⌝ }
+    ensures { λ r. ⌜ r ≡ asBit hit + n ⌝ }
+{
+    if hit { n + 1 } else { n }
+}
+
+// Each of n counts from at on is raised by its flag.
+pub fn add_flags(register: &mut [u32], at: usize, flags: &[u8], n: usize)
+    requires { ⌜ (at + n ≤ length (now register)) × (n ≤ length (now flags)) × (allRoom (take n (drop at (now register))) ≡ true) ⌝ }
+    ensures { λ _. ⌜ now (register .exit) ≡ put at (addHits isSet (take n (now (flags .entry))) (take n (drop at (now (register .entry))))) (now (register .entry)) ⌝ }
+{
+    let mut i = 0;
+    while i < n {
+        let k = at + i;
+        register[k] = raised(register[k], flags[i] == 1);
+        i += 1;
+    }
+}
+
+// Each of n counts from at on is raised where its point's reading is unknown.
+pub fn add_unknowns(register: &mut [u32], at: usize, readings: &[u64], n: usize)
+    requires { ⌜ (at + n ≤ length (now register)) × (n ≤ length (now readings)) × (allRoom (take n (drop at (now register))) ≡ true) ⌝ }
+    ensures { λ _. ⌜ now (register .exit) ≡ put at (addHits isUnknownCode (take n (now (readings .entry))) (take n (drop at (now (register .entry))))) (now (register .entry)) ⌝ }
+{
+    let mut i = 0;
+    while i < n {
+        let k = at + i;
+        register[k] = raised(register[k], readings[i] == 8589934593);
+        i += 1;
+    }
+}

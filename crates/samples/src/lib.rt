@@ -1,0 +1,4 @@
+// What an accepted sample writes: run words, counts, unknown counts, the sample word and the report.
+pub mod adds;
+pub mod report;
+pub mod write;

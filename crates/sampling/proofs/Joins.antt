@@ -1,0 +1,140 @@
+-- The counters of the points and those of the crosses, one after the other, are all of them; and they are few.
+-- Assumes nothing.
+use mathlib.Core.Path.{_≡_, refl, sym, ap, _∙_}
+use mathlib.Core.Bool.{Bool, true, false}
+use mathlib.Core.List.{List, [], _∷_, _++_, map}
+use Prim.Native.Nat.{ℕ, zero, suc, _+_, _≤_}
+use native.Mathlib.Nat.{zero-add}
+use native.Mathlib.Numerals.{add-one}
+use native.Mathlib.Omega.{arith}
+use lib.ListN.{length, take, length-append}
+use Rattle.model.specs.Lists.{upFrom, concatOf, asBit}
+use Rattle.model.specs.Table.{Table}
+use Rattle.model.specs.Counters.{Counter, pointCounters, crossCounters, counters}
+use Rattle.model.specs.Sampling.{Stretches, coverHit, hits}
+use Rattle.model.specs.Figures.{inTotal, itemOf}
+use Rattle.model.specs.Format.{accepted, tableOf}
+use Rattle.model.specs.Register.{pointTotal, counterTotal}
+use Rattle.model.proofs.Sections.{acceptance, accepted-decodes}
+use Rattle.model.proofs.Access.{points-access}
+use Rattle.model.proofs.Measure.{size-concat}
+use Rattle.model.proofs.MeasureBounds.{point-counters, counters-few}
+use Rattle.arrays.specs.Put.{put}
+use Rattle.arrays.specs.Flat.{hitFlags, totalFlags, kindsOf, kindOf, itemsOf, allPointCounters, allCrossCounters, pointStart, pointStarts, Tells, coverCounts, covers}
+use Rattle.points.specs.Gates.{Kinded, Flagged, Gathered}
+use Rattle.arrays.proofs.PutLaws.{put-next, part-put, length-put}
+
+-- ---- lists
+
+length-map : {A B : Type 0} (f : A → B) (xs : List A) → length (map f xs) ≡ length xs
+length-map f [] = refl
+length-map f (x ∷ xs) = ap suc (length-map f xs)
+
+map-append : {A B : Type 0} (f : A → B) (xs ys : List A) → map f (xs ++ ys) ≡ map f xs ++ map f ys
+map-append f [] ys = refl
+map-append f (x ∷ xs) ys = ap (f x ∷_) (map-append f xs ys)
+
+length-from : (i n : ℕ) → length (upFrom i n) ≡ n
+unfolding upFrom
+length-from i zero = refl
+length-from i (suc n) = ap suc (length-from (suc i) n)
+
+-- what was written at the front stands there
+front : {A : Type 0} (n : ℕ) (xs l : List A) → length xs ≡ n → n ≤ length l → take n (put 0 xs l) ≡ xs
+front n xs l e h = part-put 0 n xs l e (omega arith)
+
+joined : {A : Type 0} (f : Counter → A) (xs ys : List Counter) (n : ℕ) (l m r : List A) → n ≡ length xs → n ≤ length l
+    → m ≡ put 0 (map f xs) l → r ≡ put n (map f ys) m → r ≡ put 0 (map f (xs ++ ys)) l
+joined f xs ys n l m r e h a b =
+    b ∙ ap (put n (map f ys)) a
+    ∙ ap (λ (k : ℕ). put k (map f ys) (put 0 (map f xs) l)) (sym (zero-add n))
+    ∙ put-next 0 n (map f xs) (map f ys) l (length-map f xs ∙ sym e) (omega arith)
+    ∙ ap (λ zs. put 0 zs l) (sym (map-append f xs ys))
+
+-- ---- how many there are
+
+abbrev pub pointCount : Table → ℕ
+pointCount t = length (allPointCounters t)
+
+module _ (s : List ℕ) (e : accepted s ≡ true) where
+  pub points-few : pointCount (tableOf s) ≤ 4096
+  unfolding allPointCounters
+  points-few =
+      let t = tableOf s in
+      let a = acceptance s t (accepted-decodes s e) in
+      let b = size-concat length refl length-append (pointCounters t) (upFrom 0 (length (t .points))) in
+      omega (arith, point-counters s t (length s) (a .layout) (a .limited))
+
+  pub sixteen : pointTotal (tableOf s) ≤ 16
+  sixteen =
+      let t = tableOf s in
+      points-access s t (length s) (acceptance s t (accepted-decodes s e) .layout) .0 .high
+
+  pub all-few : pointCount (tableOf s) + length (allCrossCounters (tableOf s)) ≤ 12416
+  unfolding counters allPointCounters allCrossCounters
+  all-few =
+      let t = tableOf s in
+      let a = acceptance s t (accepted-decodes s e) in
+      let b = length-append (allPointCounters t) (allCrossCounters t) in
+      omega (arith, counters-few s t (length s) (a .layout) (a .limited))
+
+-- ---- the whole of each array
+
+module _ (t : Table) (n : ℕ) (e : n ≡ pointCount t) where
+  pub hits-joined : (w : List ℕ) (m : Stretches) (l a r : List ℕ) → n ≤ length l → a ≡ put 0 (hitFlags t w m (allPointCounters t)) l
+      → r ≡ put n (hitFlags t w m (allCrossCounters t)) a → r ≡ put 0 (hitFlags t w m (counters t)) l
+  unfolding hitFlags counters allPointCounters allCrossCounters
+  hits-joined w m l a r h = joined (λ c. asBit (hits t w m c)) (allPointCounters t) (allCrossCounters t) n l a r e h
+
+  pub totals-joined : (l a r : List ℕ) → n ≤ length l → a ≡ put 0 (totalFlags t (allPointCounters t)) l
+      → r ≡ put n (totalFlags t (allCrossCounters t)) a → r ≡ put 0 (totalFlags t (counters t)) l
+  unfolding totalFlags counters allPointCounters allCrossCounters
+  totals-joined l a r h = joined (λ c. asBit (inTotal t c)) (allPointCounters t) (allCrossCounters t) n l a r e h
+
+  pub kinds-joined : (l a r : List ℕ) → n ≤ length l → a ≡ put 0 (kindsOf (allPointCounters t)) l
+      → r ≡ put n (kindsOf (allCrossCounters t)) a → r ≡ put 0 (kindsOf (counters t)) l
+  unfolding kindsOf counters allPointCounters allCrossCounters
+  kinds-joined l a r h = joined kindOf (allPointCounters t) (allCrossCounters t) n l a r e h
+
+  pub items-joined : (l a r : List ℕ) → n ≤ length l → a ≡ put 0 (itemsOf t (allPointCounters t)) l
+      → r ≡ put n (itemsOf t (allCrossCounters t)) a → r ≡ put 0 (itemsOf t (counters t)) l
+  unfolding itemsOf counters allPointCounters allCrossCounters
+  items-joined l a r h = joined (itemOf t) (allPointCounters t) (allCrossCounters t) n l a r e h
+
+-- ---- the arrays as they stand
+
+pub length-starts : (t : Table) → length (pointStarts t) ≡ pointTotal t + 1
+unfolding pointStarts
+length-starts t = length-map (pointStart t) (upFrom 0 (suc (pointTotal t))) ∙ length-from 0 (suc (pointTotal t)) ∙ sym (add-one (pointTotal t))
+
+pub length-counts : (t : Table) → length (coverCounts t) ≡ pointTotal t
+unfolding coverCounts
+length-counts t = length-map (λ p. length (covers t p)) (upFrom 0 (pointTotal t)) ∙ length-from 0 (pointTotal t)
+
+pub length-kinds : (cs : List Counter) → length (kindsOf cs) ≡ length cs
+unfolding kindsOf
+length-kinds cs = length-map kindOf cs
+
+pub length-hits : (t : Table) (w : List ℕ) (m : Stretches) (cs : List Counter) → length (hitFlags t w m cs) ≡ length cs
+unfolding hitFlags
+length-hits t w m cs = length-map (λ c. asBit (hits t w m c)) cs
+
+pub starts-stand : (s : List ℕ) (l r : List ℕ) → accepted s ≡ true → r ≡ put 0 (pointStarts (tableOf s)) l → 17 ≤ length l
+    → take (pointTotal (tableOf s) + 1) r ≡ pointStarts (tableOf s)
+starts-stand s l r a e h = let t = tableOf s in let k : pointTotal t + 1 ≤ length l = omega (arith, sixteen s a) in ap (take (pointTotal t + 1)) e ∙ front (pointTotal t + 1) (pointStarts t) l (length-starts t) k
+
+pub counts-stand : (s : List ℕ) (l r : List ℕ) → accepted s ≡ true → r ≡ put 0 (coverCounts (tableOf s)) l → 16 ≤ length l
+    → take (pointTotal (tableOf s)) r ≡ coverCounts (tableOf s)
+counts-stand s l r a e h = let t = tableOf s in let k : pointTotal t ≤ length l = omega (arith, sixteen s a) in ap (take (pointTotal t)) e ∙ front (pointTotal t) (coverCounts t) l (length-counts t) k
+
+pub kinds-stand : (s : List ℕ) (l r : List ℕ) → accepted s ≡ true → r ≡ put 0 (kindsOf (allPointCounters (tableOf s))) l → 4096 ≤ length l
+    → Kinded (tableOf s) r
+unfolding Kinded
+kinds-stand s l r a e h = let t = tableOf s in let k : pointCount t ≤ length l = omega (arith, points-few s a) in ap (take (pointCount t)) e ∙ front (pointCount t) (kindsOf (allPointCounters t)) l (length-kinds (allPointCounters t)) k
+
+-- from the flags that a sample raises at the points, the gates are the cover bins that it hits
+pub gates-stand : (s w : List ℕ) (m : Stretches) (l r gate : List ℕ) → accepted s ≡ true → r ≡ put 0 (hitFlags (tableOf s) w m (allPointCounters (tableOf s))) l → 4096 ≤ length l
+    → Gathered (tableOf s) r gate
+    → Tells (coverHit (tableOf s) w) (tableOf s) gate
+unfolding hitFlags hits Gathered Flagged
+gates-stand s w m l r gate a e h f = let t = tableOf s in let k : pointCount t ≤ length l = omega (arith, points-few s a) in f (hits t w m) (ap (take (pointCount t)) e ∙ front (pointCount t) (hitFlags t w m (allPointCounters t)) l (length-hits t w m (allPointCounters t)) k)

@@ -1,0 +1,48 @@
+use borrow.Author.Needs.{needs}
+use mathlib.Core.Path.{refl}
+use native.Mathlib.Omega.{arith}
+use Rattle.sampling.proofs.Joins.{counts-stand}
+use mathlib.Core.Path.{refl}
+use Rattle.sampling.proofs.put_crossed.Statement.{statement}
+use Rattle.sampling.proofs.put_crossed.Tie as tie
+
+slice-aggregate-put-origins : tie.Need-slice-aggregate-put-origins
+slice-aggregate-put-origins c = search needs
+
+slice-aggregate-put-origins-2 : tie.Need-slice-aggregate-put-origins-2
+slice-aggregate-put-origins-2 c = search needs
+
+put-origins-requires : tie.Need-put-origins-requires
+put-origins-requires c κs = search needs
+
+slice-aggregate-put-crosses : tie.Need-slice-aggregate-put-crosses
+slice-aggregate-put-crosses c = search needs
+
+slice-aggregate-put-crosses-2 : tie.Need-slice-aggregate-put-crosses-2
+slice-aggregate-put-crosses-2 c = search needs
+
+put-crosses-requires : tie.Need-put-crosses-requires
+put-crosses-requires c κs =
+    let b = c .before .before .before .before .before .before .before .before .before .before .before .before in
+    let k = c .before .before .before .before .before .put-origins in
+    let s = b .args .t .now in
+    ((b .pre .0, counts-stand s _ (k .last .1 .0) (b .pre .0) (k .ensures .2) (omega arith), b .pre .1, omega arith, k .ensures .0), b .pre .2)
+
+same-length : tie.Need-same-length
+same-length c = search needs
+
+returns : tie.Need-returns
+returns c = search needs
+
+pub put-crossed-spec : {M : Type 1} → statement M
+put-crossed-spec =
+    tie.close
+    (tie.spec
+    slice-aggregate-put-origins
+    slice-aggregate-put-origins-2
+    put-origins-requires
+    slice-aggregate-put-crosses
+    slice-aggregate-put-crosses-2
+    put-crosses-requires
+    same-length
+    returns)

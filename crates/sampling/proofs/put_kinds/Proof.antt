@@ -1,0 +1,53 @@
+use borrow.Author.Needs.{needs}
+use mathlib.Core.Path.{refl}
+use native.Mathlib.Omega.{arith}
+use Rattle.sampling.proofs.Joins.{points-few, all-few, counts-stand, kinds-joined}
+use mathlib.Core.Path.{refl}
+use Rattle.sampling.proofs.put_kinds.Statement.{statement}
+use Rattle.sampling.proofs.put_kinds.Tie as tie
+
+slice-aggregate-put-point-kinds : tie.Need-slice-aggregate-put-point-kinds
+slice-aggregate-put-point-kinds c = search needs
+
+put-point-kinds-requires : tie.Need-put-point-kinds-requires
+put-point-kinds-requires c κs = search needs
+
+slice-aggregate-put-counts : tie.Need-slice-aggregate-put-counts
+slice-aggregate-put-counts c = search needs
+
+put-counts-requires : tie.Need-put-counts-requires
+put-counts-requires c κs = search needs
+
+slice-aggregate-put-cross-kinds : tie.Need-slice-aggregate-put-cross-kinds
+slice-aggregate-put-cross-kinds c = search needs
+
+put-cross-kinds-requires : tie.Need-put-cross-kinds-requires
+put-cross-kinds-requires c κs =
+    let b = c .before .before .before .before .before .before .before .before .before .before .before .before .before in
+    let k = c .before .before .before .put-counts in
+    let s = b .args .t .now in
+    (b .pre .0, counts-stand s _ (k .last .0) (b .pre .0) (k .ensures) (omega arith), omega (arith, all-few s (b .pre .0)))
+
+same-length : tie.Need-same-length
+same-length c = search needs
+
+returns : tie.Need-returns
+returns c =
+    let b = c .before .before .before .before .before .before .before .before .before .before .before .before .before .before .before .before in
+    let p = c .before .before .before .before .before .before .before .before .before .before .before .put-point-kinds in
+    let x = c .before .before .put-cross-kinds in
+    let s = b .args .t .now in
+    kinds-joined _ _ (p .ensures .0) (b .args .kinds .now) (p .last .0) (x .last .0) (omega (arith, points-few s (b .pre .0))) (p .ensures .1 .0) (x .ensures .1)
+
+pub put-kinds-spec : {M : Type 1} → statement M
+put-kinds-spec =
+    tie.close
+    (tie.spec
+    slice-aggregate-put-point-kinds
+    put-point-kinds-requires
+    slice-aggregate-put-counts
+    put-counts-requires
+    slice-aggregate-put-cross-kinds
+    put-cross-kinds-requires
+    same-length
+    returns)
