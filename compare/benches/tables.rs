@@ -1,84 +1,12 @@
 //! Time to measure a table, the library against this program's own check, in
 //! one run on the same bytes. Run with the feature `library`.
 
-use compare::builder::{
-    value, Cross, Form, Kind, Point, Range, Select, Step, Table, TransitionBin, ValueBin,
-};
+mod common;
+
+use common::{largest, medium, nanoseconds, small};
+use compare::builder::{value, Form, Point, Range, Table, ValueBin};
 use compare::{library, table};
 use std::hint::black_box;
-use std::time::Instant;
-
-/// About 600 bytes: 3 points, 12 bins, a sequence, a cross.
-fn small() -> Table {
-    let points = vec![Point::new(8), Point::signed(12), Point::new(4)];
-    let mut bins: Vec<ValueBin> = (0..8)
-        .map(|i| ValueBin::cover(0, &[Range::Span(i * 16, i * 16 + 15)]))
-        .collect();
-    bins.push(ValueBin::cover(1, &[Range::Span(-100, 100)]).form(Form::Number(10)));
-    bins.push(ValueBin::ignore(1, &[value(0)]));
-    bins.push(ValueBin::cover(2, &[Range::Span(0, 7)]).form(Form::PerValue));
-    bins.push(ValueBin::illegal(2, &[value(15)]));
-    let steps = vec![Step::new(&[value(1)]), Step::new(&[value(2), value(3)])];
-    let cross = Cross::new(&[0, 2]).bin(Kind::Cover, Select::bin(0, 0).and(Select::meets(1, 0, 3)));
-    Table::new(points)
-        .values(bins)
-        .transitions(vec![TransitionBin::cover(0, &[steps])])
-        .cross(cross)
-}
-
-/// Some 8,000 bytes: 8 points with 16 bins each, sequences, crosses.
-fn medium() -> Table {
-    let points = (0..8).map(|_| Point::new(16)).collect();
-    let mut bins = Vec::new();
-    for point in 0..8u8 {
-        for i in 0..16 {
-            let spans = [Range::Span(i * 100, i * 100 + 50), value(60_000 + i)];
-            bins.push(ValueBin::cover(point, &spans));
-        }
-    }
-    let steps = vec![Step::new(&[value(1)]), Step::new(&[value(2)])];
-    let transitions = (0..16)
-        .map(|i| TransitionBin::cover(i % 8, &[steps.clone(), steps.clone()]))
-        .collect();
-    let mut table = Table::new(points).values(bins).transitions(transitions);
-    for i in 0..4u8 {
-        let select = Select::bin(0, u16::from(i) * 32).or(Select::meets(1, 0, 99).negated());
-        table = table.cross(Cross::new(&[i * 2, i * 2 + 1]).bin(Kind::Cover, select));
-    }
-    table
-}
-
-/// The largest counts: 16 points, 512 bins with 1,024 ranges, 64 sequences of
-/// 4 steps with 512 step ranges, 8 crosses with 128 bins and 1,024 tokens.
-fn largest() -> Table {
-    let points = (0..16).map(|_| Point::new(32)).collect();
-    let mut bins = Vec::new();
-    for point in 0..16u8 {
-        for i in 0..32i64 {
-            let spans = [
-                Range::Span(i * 1_000, i * 1_000 + 500),
-                Range::Span(i * 7_000, i * 7_000 + 1),
-            ];
-            bins.push(ValueBin::cover(point, &spans));
-        }
-    }
-    let step = || Step::new(&[value(1), value(9)]);
-    let sequence = || vec![step(), step(), step(), step()];
-    let transitions = (0..64)
-        .map(|i| TransitionBin::cover(i % 16, &[sequence()]))
-        .collect();
-    let mut table = Table::new(points).values(bins).transitions(transitions);
-    for c in 0..8u8 {
-        let mut cross = Cross::new(&[c * 2, c * 2 + 1]);
-        for _ in 0..16 {
-            let leaf = || Select::meets(0, 0, 99);
-            let three = leaf().and(leaf()).or(leaf().negated());
-            cross = cross.bin(Kind::Cover, three.and(leaf()));
-        }
-        table = table.cross(cross);
-    }
-    table
-}
 
 /// One bin per value over many spans: the costliest count of places.
 fn per_value() -> Table {
@@ -86,21 +14,6 @@ fn per_value() -> Table {
     spans.extend((0..255).map(|i| value(i * 3)));
     let bin = ValueBin::cover(0, &spans).form(Form::PerValue);
     Table::new(vec![Point::new(32)]).values(vec![bin])
-}
-
-/// The median nanoseconds of one call over some rounds.
-fn nanoseconds(rounds: usize, calls: usize, mut call: impl FnMut()) -> f64 {
-    let mut times: Vec<f64> = (0..rounds)
-        .map(|_| {
-            let start = Instant::now();
-            for _ in 0..calls {
-                call();
-            }
-            start.elapsed().as_nanos() as f64 / calls as f64
-        })
-        .collect();
-    times.sort_by(f64::total_cmp);
-    times[rounds / 2]
 }
 
 fn main() {
@@ -116,10 +29,10 @@ fn main() {
         assert_eq!(library::measure(&bytes), table::measure(&bytes), "{name}");
         assert_eq!(table::measure(&bytes).number, 0, "{name}");
         let calls = 2_000_000 / bytes.len().max(200);
-        let ours = nanoseconds(15, calls, || {
+        let ours = nanoseconds(15, calls, |_| {
             black_box(library::measure(black_box(&bytes)));
         });
-        let theirs = nanoseconds(15, calls, || {
+        let theirs = nanoseconds(15, calls, |_| {
             black_box(table::measure(black_box(&bytes)));
         });
         println!(

@@ -1,6 +1,8 @@
 //! Calls by name, so that a list of them can be given to register and book.
 
 use crate::book::{Book, Fed};
+#[cfg(feature = "library")]
+use crate::library;
 use crate::register;
 
 /// What report words hold before a call, so that an untouched word shows.
@@ -83,6 +85,43 @@ pub fn on_register(bytes: &[u8], words: &mut [u32], call: &Call) -> Outcome {
         }
         Call::GroupFigure => {
             let (number, figure) = register::group_figure(bytes, words);
+            Outcome::with(number, Answer::Group(figure))
+        }
+    }
+}
+
+/// Gives a call to the library, the table's bytes with it.
+#[cfg(feature = "library")]
+pub fn on_library(bytes: &[u8], words: &mut [u32], call: &Call) -> Outcome {
+    match call {
+        Call::Reset => Outcome::of(library::reset(bytes, words)),
+        Call::Start => Outcome::of(library::start(bytes, words)),
+        Call::Stop => Outcome::of(library::stop(bytes, words)),
+        Call::Sample {
+            words: sample,
+            report,
+        } => {
+            let mut report = vec![UNTOUCHED; *report];
+            let number = library::sample(bytes, words, sample, &mut report);
+            Outcome {
+                report,
+                ..Outcome::of(number)
+            }
+        }
+        Call::PlaceCount(place) => {
+            let (number, count) = library::place_count(bytes, words, *place);
+            Outcome::with(number, Answer::Count(count))
+        }
+        Call::UnknownCount(point) => {
+            let (number, count) = library::unknown_count(bytes, words, *point);
+            Outcome::with(number, Answer::Count(count))
+        }
+        Call::ItemFigure(item) => {
+            let (number, figure) = library::item_figure(bytes, words, *item);
+            Outcome::with(number, Answer::Item(figure))
+        }
+        Call::GroupFigure => {
+            let (number, figure) = library::group_figure(bytes, words);
             Outcome::with(number, Answer::Group(figure))
         }
     }

@@ -1,4 +1,4 @@
-//! Register machine and book side by side.
+//! Register machine and book side by side; with the feature `library`, the library beside them.
 #![allow(dead_code)]
 
 use compare::book::{Book, Fed, Rules};
@@ -45,6 +45,8 @@ impl Both {
     pub fn call(&mut self, call: &Call) -> Outcome {
         let before = self.register.clone();
         let by_register = calls::on_register(&self.bytes, &mut self.register, call);
+        #[cfg(feature = "library")]
+        self.same_by_library(&before, call, &by_register);
         let by_book = calls::on_book(&self.rules, &mut self.book, call);
         self.done.push(call.clone());
         if by_register != by_book {
@@ -54,6 +56,18 @@ impl Both {
             self.fail("a refused call wrote to the register");
         }
         by_register
+    }
+
+    /// The library answers as the register machine did, and leaves the same words.
+    #[cfg(feature = "library")]
+    fn same_by_library(&self, before: &[u32], call: &Call, by_register: &Outcome) {
+        let mut words = before.to_vec();
+        let by_library = calls::on_library(&self.bytes, &mut words, call);
+        if (&by_library, &words) != (by_register, &self.register) {
+            self.fail(&format!(
+                "{call:?}\nlibrary {by_library:?} {words:?}\nregister {by_register:?}"
+            ));
+        }
     }
 
     /// The same call with another table, which both must refuse alike and which

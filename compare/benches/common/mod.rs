@@ -1,0 +1,94 @@
+//! Tables of three sizes, and a stopwatch.
+
+use compare::builder::{
+    value, Cross, Form, Kind, Point, Range, Select, Step, Table, TransitionBin, ValueBin,
+};
+use std::time::Instant;
+
+/// About 600 bytes: 3 points, 12 bins, a sequence, a cross; some 90 counters.
+pub fn small() -> Table {
+    let points = vec![Point::new(8), Point::signed(12), Point::new(4)];
+    let mut bins: Vec<ValueBin> = (0..8)
+        .map(|i| ValueBin::cover(0, &[Range::Span(i * 16, i * 16 + 15)]))
+        .collect();
+    bins.push(ValueBin::cover(1, &[Range::Span(-100, 100)]).form(Form::Number(10)));
+    bins.push(ValueBin::ignore(1, &[value(0)]));
+    bins.push(ValueBin::cover(2, &[Range::Span(0, 7)]).form(Form::PerValue));
+    bins.push(ValueBin::illegal(2, &[value(15)]));
+    let steps = vec![Step::new(&[value(1)]), Step::new(&[value(2), value(3)])];
+    let cross = Cross::new(&[0, 2]).bin(Kind::Cover, Select::bin(0, 0).and(Select::meets(1, 0, 3)));
+    Table::new(points)
+        .values(bins)
+        .transitions(vec![TransitionBin::cover(0, &[steps])])
+        .cross(cross)
+}
+
+/// Some 8,000 bytes: 8 points with 16 bins each, sequences, crosses.
+pub fn medium() -> Table {
+    let points = (0..8).map(|_| Point::new(16)).collect();
+    let mut bins = Vec::new();
+    for point in 0..8u8 {
+        for i in 0..16 {
+            let spans = [Range::Span(i * 100, i * 100 + 50), value(60_000 + i)];
+            bins.push(ValueBin::cover(point, &spans));
+        }
+    }
+    let steps = vec![Step::new(&[value(1)]), Step::new(&[value(2)])];
+    let transitions = (0..16)
+        .map(|i| TransitionBin::cover(i % 8, &[steps.clone(), steps.clone()]))
+        .collect();
+    let mut table = Table::new(points).values(bins).transitions(transitions);
+    for i in 0..4u8 {
+        let select = Select::bin(0, u16::from(i) * 32).or(Select::meets(1, 0, 99).negated());
+        table = table.cross(Cross::new(&[i * 2, i * 2 + 1]).bin(Kind::Cover, select));
+    }
+    table
+}
+
+/// The largest counts: 16 points, 512 bins with 1,024 ranges, 64 sequences of
+/// 4 steps with 512 step ranges, 8 crosses of 1,024
+/// products with 128 bins and 1,024 tokens in all.
+pub fn largest() -> Table {
+    let points = (0..16).map(|_| Point::new(32)).collect();
+    let mut bins = Vec::new();
+    for point in 0..16u8 {
+        for i in 0..32i64 {
+            let spans = [
+                Range::Span(i * 1_000, i * 1_000 + 500),
+                Range::Span(i * 7_000, i * 7_000 + 1),
+            ];
+            bins.push(ValueBin::cover(point, &spans));
+        }
+    }
+    let step = || Step::new(&[value(1), value(9)]);
+    let sequence = || vec![step(), step(), step(), step()];
+    let transitions = (0..64)
+        .map(|i| TransitionBin::cover(i % 16, &[sequence()]))
+        .collect();
+    let mut table = Table::new(points).values(bins).transitions(transitions);
+    for c in 0..8u8 {
+        let mut cross = Cross::new(&[c * 2, c * 2 + 1]);
+        for _ in 0..16 {
+            let leaf = || Select::meets(0, 0, 99);
+            let three = leaf().and(leaf()).or(leaf().negated());
+            cross = cross.bin(Kind::Cover, three.and(leaf()));
+        }
+        table = table.cross(cross);
+    }
+    table
+}
+
+/// The median nanoseconds of one call over some rounds.
+pub fn nanoseconds(rounds: usize, calls: usize, mut call: impl FnMut(usize)) -> f64 {
+    let mut times: Vec<f64> = (0..rounds)
+        .map(|_| {
+            let start = Instant::now();
+            for index in 0..calls {
+                call(index);
+            }
+            start.elapsed().as_nanos() as f64 / calls as f64
+        })
+        .collect();
+    times.sort_by(f64::total_cmp);
+    times[rounds / 2]
+}

@@ -1,0 +1,232 @@
+//! Safe functions over the Fluviquen coverage register.
+//!
+//! A *table* (bytes) describes coverpoints, bins, transition sequences and
+//! crosses; a *register* (32-bit words that the caller lends) counts which of
+//! them a simulated chip has been through. Every answer of the library beneath
+//! is proved; this crate only passes slices on and gives refusals a name.
+//!
+//! ```
+//! use fluviquen::{reset, sample, item_figure, Table};
+//!
+//! // One unsigned point of one bit, with auto bins for 0 and 1.
+//! let mut bytes = vec![1, 0, 1, 0, 255, 1, 0, 1, 0, 0, 0, 64, 0];
+//! bytes.extend([0; 18]);
+//! let table = Table::new(&bytes)?;
+//! let mut register = table.register();
+//! let mut report = table.report();
+//! // Guard bits, unknown guard bits, then the point's value and unknown bits.
+//! sample(&bytes, &mut register, &[0, 0, 0, 0, 1, 0], &mut report)?;
+//! assert_eq!(item_figure(&bytes, &register, 0)?, Some(50.0));
+//! # Ok::<(), fluviquen::Refusal>(())
+//! ```
+
+use std::fmt;
+
+mod sys;
+
+/// Why a table or a call was refused, by document 01's number, 1 to 14.
+#[derive(Clone, Copy, Debug, PartialEq, Eq, Hash, PartialOrd, Ord)]
+pub struct Refusal(u32);
+
+impl Refusal {
+    pub fn number(self) -> u32 {
+        self.0
+    }
+
+    /// The refusal in words.
+    pub fn reason(self) -> &'static str {
+        match self.0 {
+            1 => "the table is over 65,536 bytes",
+            2 => "a count or record of the table runs past its end",
+            3 => "a count or field of the table is outside its allowed values",
+            4 => "counts, defaults, sequences, crosses or expressions of the table do not agree",
+            5 => "the table has bytes after section ten",
+            6 => "the table has over 256 places at a point, or over 1,024 products in a cross",
+            7 => "the register is shorter than the table needs",
+            8 => "the register has a flag above 1, or a count above its sample word",
+            9 => "the register has taken 4,294,967,295 samples",
+            10 => "the register is stopped",
+            11 => "the report is shorter than the number of illegal places",
+            12 => "the sample has not 4 + 2 x points words",
+            13 => "the sample has a value or unknown bit above a point's width",
+            14 => "there is no such place, point or item",
+            _ => "refused",
+        }
+    }
+}
+
+impl fmt::Display for Refusal {
+    fn fmt(&self, f: &mut fmt::Formatter<'_>) -> fmt::Result {
+        write!(f, "refusal {}: {}", self.0, self.reason())
+    }
+}
+
+impl std::error::Error for Refusal {}
+
+fn accepted(number: u32) -> Result<(), Refusal> {
+    match number {
+        0 => Ok(()),
+        number => Err(Refusal(number)),
+    }
+}
+
+/// What a table needs: the words of a register and of a report.
+#[derive(Clone, Copy, Debug, PartialEq, Eq)]
+pub struct Measure {
+    pub words: usize,
+    pub illegal_places: usize,
+}
+
+/// Measures a table, or says why it is refused.
+pub fn measure(table: &[u8]) -> Result<Measure, Refusal> {
+    let (mut words, mut illegal_places) = (0, 0);
+    // The pointers and lengths are those of live slices and locals.
+    let number = unsafe {
+        sys::fluviquen_measure(table.as_ptr(), table.len(), &mut words, &mut illegal_places)
+    };
+    accepted(number)?;
+    Ok(Measure {
+        words: words as usize,
+        illegal_places: illegal_places as usize,
+    })
+}
+
+/// The records of section 1 to 10, without their count; empty for another number.
+pub fn section(table: &[u8], number: u32) -> Result<&[u8], Refusal> {
+    let (mut start, mut len) = (0, 0);
+    let refusal = unsafe {
+        sys::fluviquen_section(table.as_ptr(), table.len(), number, &mut start, &mut len)
+    };
+    accepted(refusal)?;
+    Ok(&table[start..start + len])
+}
+
+/// A table that was accepted, with what it needs.
+#[derive(Clone, Copy, Debug)]
+pub struct Table<'a> {
+    bytes: &'a [u8],
+    measure: Measure,
+}
+
+impl<'a> Table<'a> {
+    pub fn new(bytes: &'a [u8]) -> Result<Table<'a>, Refusal> {
+        let measure = measure(bytes)?;
+        Ok(Table { bytes, measure })
+    }
+
+    pub fn bytes(&self) -> &'a [u8] {
+        self.bytes
+    }
+
+    pub fn measure(&self) -> Measure {
+        self.measure
+    }
+
+    /// A register of the right length, reset.
+    pub fn register(&self) -> Vec<u32> {
+        let mut words = vec![0; self.measure.words];
+        reset(self.bytes, &mut words).expect("an accepted table and a register of its length");
+        words
+    }
+
+    /// A report of the right length.
+    pub fn report(&self) -> Vec<u32> {
+        vec![0; self.measure.illegal_places]
+    }
+}
+
+/// Begins anew: running, all counts 0. Words beyond the register stay.
+pub fn reset(table: &[u8], register: &mut [u32]) -> Result<(), Refusal> {
+    let (words, len) = (register.as_mut_ptr(), register.len());
+    accepted(unsafe { sys::fluviquen_reset(table.as_ptr(), table.len(), words, len) })
+}
+
+/// Runs a stopped register again: sequences begin anew, counts stay.
+pub fn start(table: &[u8], register: &mut [u32]) -> Result<(), Refusal> {
+    let (words, len) = (register.as_mut_ptr(), register.len());
+    accepted(unsafe { sys::fluviquen_start(table.as_ptr(), table.len(), words, len) })
+}
+
+/// Stops a register: it takes no samples until it is started.
+pub fn stop(table: &[u8], register: &mut [u32]) -> Result<(), Refusal> {
+    let (words, len) = (register.as_mut_ptr(), register.len());
+    accepted(unsafe { sys::fluviquen_stop(table.as_ptr(), table.len(), words, len) })
+}
+
+/// Takes a sample: guard bits (two words), unknown guard bits (two words), then
+/// each point's value and unknown bits. The report has 1 at each illegal place
+/// that the sample raised.
+pub fn sample(
+    table: &[u8],
+    register: &mut [u32],
+    sample: &[u32],
+    report: &mut [u32],
+) -> Result<(), Refusal> {
+    accepted(unsafe {
+        sys::fluviquen_sample(
+            table.as_ptr(),
+            table.len(),
+            register.as_mut_ptr(),
+            register.len(),
+            sample.as_ptr(),
+            sample.len(),
+            report.as_mut_ptr(),
+            report.len(),
+        )
+    })
+}
+
+/// A place's count.
+pub fn place_count(table: &[u8], register: &[u32], place: usize) -> Result<u32, Refusal> {
+    let mut count = 0;
+    let (words, len) = (register.as_ptr(), register.len());
+    accepted(unsafe {
+        sys::fluviquen_place_count(table.as_ptr(), table.len(), words, len, place, &mut count)
+    })?;
+    Ok(count)
+}
+
+/// How often a point's reading was unknown.
+pub fn unknown_count(table: &[u8], register: &[u32], point: usize) -> Result<u32, Refusal> {
+    let mut count = 0;
+    let (words, len) = (register.as_ptr(), register.len());
+    accepted(unsafe {
+        sys::fluviquen_unknown_count(table.as_ptr(), table.len(), words, len, point, &mut count)
+    })?;
+    Ok(count)
+}
+
+/// An item's coverage in percent; none if it has nothing to cover. Items are the
+/// points, then the crosses.
+pub fn item_figure(table: &[u8], register: &[u32], item: usize) -> Result<Option<f64>, Refusal> {
+    let (mut present, mut percent) = (0, 0.0);
+    accepted(unsafe {
+        sys::fluviquen_item_figure(
+            table.as_ptr(),
+            table.len(),
+            register.as_ptr(),
+            register.len(),
+            item,
+            &mut present,
+            &mut percent,
+        )
+    })?;
+    Ok((present == 1).then_some(percent))
+}
+
+/// The group's coverage in millionths of a percent; none if no weighted item has
+/// anything to cover.
+pub fn group_figure(table: &[u8], register: &[u32]) -> Result<Option<u32>, Refusal> {
+    let (mut present, mut millionths) = (0, 0);
+    accepted(unsafe {
+        sys::fluviquen_group_figure(
+            table.as_ptr(),
+            table.len(),
+            register.as_ptr(),
+            register.len(),
+            &mut present,
+            &mut millionths,
+        )
+    })?;
+    Ok((present == 1).then_some(millionths))
+}
