@@ -1,7 +1,7 @@
 // The flags of all crosses.
 use crate::bins::put_cross;
-use marks::put_marks;
 use layout::layout_of;
+use marks::put_marks;
 use words::bytes::byte;
 ghost use mathlib.Core.Path.{_≡_};
 ghost use mathlib.Core.Bool.{true, false};

@@ -82,7 +82,12 @@ pub extern "C" fn fluviquen_sample(
 
 // A place's count; 0 if refused.
 #[no_mangle]
-pub extern "C" fn fluviquen_place_count(table: &[u8], reg: &[u32], place: usize, count: &mut u32) -> u32
+pub extern "C" fn fluviquen_place_count(
+    table: &[u8],
+    reg: &[u32],
+    place: usize,
+    count: &mut u32,
+) -> u32
     ensures { λ r. ⌜ r ≡ Model.call (now (table .entry)) (now (reg .entry)) (Model.askCounter place) .response .number ⌝ }
     ensures { λ _. ⌜ now (count .exit) ≡ countIn (Model.call (now (table .entry)) (now (reg .entry)) (Model.askCounter place) .response .answer) ⌝ }
 {
@@ -93,7 +98,12 @@ pub extern "C" fn fluviquen_place_count(table: &[u8], reg: &[u32], place: usize,
 
 // A point's unknown count; 0 if refused.
 #[no_mangle]
-pub extern "C" fn fluviquen_unknown_count(table: &[u8], reg: &[u32], point: usize, count: &mut u32) -> u32
+pub extern "C" fn fluviquen_unknown_count(
+    table: &[u8],
+    reg: &[u32],
+    point: usize,
+    count: &mut u32,
+) -> u32
     ensures { λ r. ⌜ r ≡ Model.call (now (table .entry)) (now (reg .entry)) (Model.askUnknown point) .response .number ⌝ }
     ensures { λ _. ⌜ now (count .exit) ≡ countIn (Model.call (now (table .entry)) (now (reg .entry)) (Model.askUnknown point) .response .answer) ⌝ }
 {

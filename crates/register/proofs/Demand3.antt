@@ -1,4 +1,5 @@
--- Demand 3 next to what the contracts of this crate say: both are about the model's `call`.
+-- Demand 3 next to what the contracts of this crate say: both are about the model's `call`. Each contract's clauses are one of the records below, and
+-- each record is the call's whole effect; so calls in a row, each as its contract says, are a `Run`, and `demand3` is about every run.
 -- Assumes nothing.
 use mathlib.Core.Path.{_≡_, refl, sym, ap, ap₂, _∙_}
 use mathlib.Core.List.{List, [], _∷_}
@@ -7,7 +8,7 @@ use lib.ListN.{length, take, drop}
 use Rattle.model.specs.Lists.{firstFailed}
 use Rattle.model.specs.Table.{Table}
 use Rattle.model.specs.Format.{Outcome, rejected, decoded, decode}
-use Rattle.model.specs.Register.{wordsNeeded, Call, reset, start, stop, askCounter, askUnknown, Answer, nothing, counted, Response, Effect, callTests, accept, perform, onTable, onOutcome, call}
+use Rattle.model.specs.Register.{wordsNeeded, Call, reset, start, stop, sample, askCounter, askUnknown, askItem, askGroup, Answer, nothing, Response, Effect, callTests, accept, perform, onTable, onOutcome, call}
 use Rattle.model.specs.Reference.{registerResponses, registerAfter, referenceWords, referenceResponses, referenceAfterCalls, newReference}
 use Rattle.model.proofs.Demand3 as Model
 
@@ -18,10 +19,16 @@ pub record Writes (s w : List ℕ) (c : Call) (r : ℕ) (after : List ℕ) : Typ
   pub number : r ≡ call s w c .response .number
   pub words : after ≡ call s w c .words
 
--- of `place_count` and `unknown_count`: the number and the count that the call returns. The register is lent to be read.
-pub record Tells (s w : List ℕ) (c : Call) (r n : ℕ) : Type 0 where
+-- of `sample`: the number, the words and the report; v are the sample's words, p the report's before the call
+pub record Samples (s w v p : List ℕ) (r : ℕ) (after report : List ℕ) : Type 0 where
+  pub number : r ≡ call s w (sample v p) .response .number
+  pub words : after ≡ call s w (sample v p) .words
+  pub reported : report ≡ call s w (sample v p) .response .report
+
+-- of a question: the number and the answer (`counted` of the count, `itemAnswer` or `groupAnswer` of the figure). The register is lent to be read.
+pub record Tells (s w : List ℕ) (c : Call) (r : ℕ) (a : Answer) : Type 0 where
   pub number : r ≡ call s w c .response .number
-  pub answer : counted n ≡ call s w c .response .answer
+  pub answer : a ≡ call s w c .response .answer
 
 -- ---- this is all of the call's effect
 
@@ -33,12 +40,14 @@ pub data Plain : Call → Type 0 where
 pub data Asks : Call → Type 0 where
   counter : (i : ℕ) → Asks (askCounter i)
   unknown : (i : ℕ) → Asks (askUnknown i)
+  item : (i : ℕ) → Asks (askItem i)
+  group : Asks askGroup
 
-abbrev pub effect : ℕ → Answer → List ℕ → Effect
-effect number answer words = record { response = record { number = number; answer = answer; report = [] }; words = words }
+abbrev pub effect : ℕ → Answer → List ℕ → List ℕ → Effect
+effect number answer report words = record { response = record { number = number; answer = answer; report = report }; words = words }
 
 -- a plain call answers nothing and reports nothing
-plain-all : (w : List ℕ) (c : Call) → Plain c → (n : ℕ) (t : Table) → perform n t w c ≡ effect (perform n t w c .response .number) nothing (perform n t w c .words)
+plain-all : (w : List ℕ) (c : Call) → Plain c → (n : ℕ) (t : Table) → perform n t w c ≡ effect (perform n t w c .response .number) nothing [] (perform n t w c .words)
 unfolding accept
 plain-all w c resets zero t = refl
 plain-all w c starts zero t = refl
@@ -47,31 +56,55 @@ plain-all w c resets (suc n) t = refl
 plain-all w c starts (suc n) t = refl
 plain-all w c stops (suc n) t = refl
 
--- a count is asked of a register that stays as it is
-asks-all : (w : List ℕ) (c : Call) → Asks c → (n : ℕ) (t : Table) → perform n t w c ≡ effect (perform n t w c .response .number) (perform n t w c .response .answer) w
+-- a sample answers nothing but its report
+sample-all : (w v p : List ℕ) (n : ℕ) (t : Table)
+    → perform n t w (sample v p) ≡ effect (perform n t w (sample v p) .response .number) nothing (perform n t w (sample v p) .response .report) (perform n t w (sample v p) .words)
+unfolding accept
+sample-all w v p zero t = refl
+sample-all w v p (suc n) t = refl
+
+-- a question leaves the register as it is
+asks-all : (w : List ℕ) (c : Call) → Asks c → (n : ℕ) (t : Table) → perform n t w c ≡ effect (perform n t w c .response .number) (perform n t w c .response .answer) [] w
 unfolding accept
 asks-all w c (counter i) zero t = refl
 asks-all w c (unknown i) zero t = refl
+asks-all w c (item i) zero t = refl
+asks-all w c group zero t = refl
 asks-all w c (counter i) (suc n) t = refl
 asks-all w c (unknown i) (suc n) t = refl
+asks-all w c (item i) (suc n) t = refl
+asks-all w c group (suc n) t = refl
 
-pub writes-all : (s w : List ℕ) (c : Call) → Plain c → (r : ℕ) (after : List ℕ) → Writes s w c r after → call s w c ≡ effect r nothing after
+pub writes-all : (s w : List ℕ) (c : Call) → Plain c → (r : ℕ) (after : List ℕ) → Writes s w c r after → call s w c ≡ effect r nothing [] after
 unfolding call onTable
-writes-all s w c p r after h = go c p (decode s) ∙ ap₂ (λ (n : ℕ) (l : List ℕ). effect n nothing l) (sym (h .number)) (sym (h .words))
+writes-all s w c p r after h = go c p (decode s) ∙ ap₂ (λ (n : ℕ) (l : List ℕ). effect n nothing [] l) (sym (h .number)) (sym (h .words))
   where
-    go : (c : Call) → Plain c → (o : Outcome) → onOutcome o w c ≡ effect (onOutcome o w c .response .number) nothing (onOutcome o w c .words)
+    go : (c : Call) → Plain c → (o : Outcome) → onOutcome o w c ≡ effect (onOutcome o w c .response .number) nothing [] (onOutcome o w c .words)
     go c resets (rejected f) = refl
     go c starts (rejected f) = refl
     go c stops (rejected f) = refl
     go c p (decoded t) = plain-all w c p (firstFailed (callTests t w c)) t
 
-pub tells-all : (s w : List ℕ) (c : Call) → Asks c → (r n : ℕ) → Tells s w c r n → call s w c ≡ effect r (counted n) w
+pub samples-all : (s w v p : List ℕ) (r : ℕ) (after report : List ℕ) → Samples s w v p r after report → call s w (sample v p) ≡ effect r nothing report after
 unfolding call onTable
-tells-all s w c p r n h = go c p (decode s) ∙ ap₂ (λ (x : ℕ) (a : Answer). effect x a w) (sym (h .number)) (sym (h .answer))
+samples-all s w v p r after report h =
+    go (decode s)
+    ∙ ap₂ (λ (n : ℕ) (l : List ℕ). effect n nothing (call s w (sample v p) .response .report) l) (sym (h .number)) (sym (h .words))
+    ∙ ap (λ (l : List ℕ). effect r nothing l after) (sym (h .reported))
   where
-    go : (c : Call) → Asks c → (o : Outcome) → onOutcome o w c ≡ effect (onOutcome o w c .response .number) (onOutcome o w c .response .answer) w
+    go : (o : Outcome) → onOutcome o w (sample v p) ≡ effect (onOutcome o w (sample v p) .response .number) nothing (onOutcome o w (sample v p) .response .report) (onOutcome o w (sample v p) .words)
+    go (rejected f) = refl
+    go (decoded t) = sample-all w v p (firstFailed (callTests t w (sample v p))) t
+
+pub tells-all : (s w : List ℕ) (c : Call) → Asks c → (r : ℕ) (a : Answer) → Tells s w c r a → call s w c ≡ effect r a [] w
+unfolding call onTable
+tells-all s w c p r a h = go c p (decode s) ∙ ap₂ (λ (x : ℕ) (y : Answer). effect x y [] w) (sym (h .number)) (sym (h .answer))
+  where
+    go : (c : Call) → Asks c → (o : Outcome) → onOutcome o w c ≡ effect (onOutcome o w c .response .number) (onOutcome o w c .response .answer) [] w
     go c (counter i) (rejected f) = refl
     go c (unknown i) (rejected f) = refl
+    go c (item i) (rejected f) = refl
+    go c group (rejected f) = refl
     go c p (decoded t) = asks-all w c p (firstFailed (callTests t w c)) t
 
 -- ---- demand 3
