@@ -1,4 +1,5 @@
-//! Every worked reading of the rules, on register and book.
+//! Every worked reading of the rules, on register machine and book; with the feature
+//! `library`, on the library too.
 
 mod common;
 
@@ -8,8 +9,8 @@ use compare::builder::{
     sequence, value, Cross, Form, Kind, Point, Range, Select, Step, Table, TransitionBin, ValueBin,
 };
 use compare::calls::Call;
-use compare::register::{self, signed_value};
-use compare::table::{self, Type};
+use compare::register::signed_value;
+use compare::table::Type;
 
 /// The places that each of these values raises at a single point.
 fn raised_by(table: &Table, values: std::ops::RangeInclusive<i64>) -> Vec<Vec<usize>> {
@@ -216,7 +217,7 @@ fn most_sum() {
         ];
         transitions(vec![TransitionBin::cover(0, &[steps])]).bytes()
     };
-    assert_eq!(table::measure(&with_most(31)).number, 0);
+    assert_eq!(common::measure(&with_most(31)).number, 0);
     let three = |a, b, c| {
         let one = |most| Step::new(&[value(1)]).repeat(1, most);
         transitions(vec![TransitionBin::cover(
@@ -225,9 +226,9 @@ fn most_sum() {
         )])
         .bytes()
     };
-    assert_eq!(table::measure(&with_most(32)).number, 4);
-    assert_eq!(table::measure(&three(10, 11, 11)).number, 0);
-    assert_eq!(table::measure(&three(11, 11, 11)).number, 4);
+    assert_eq!(common::measure(&with_most(32)).number, 4);
+    assert_eq!(common::measure(&three(10, 11, 11)).number, 0);
+    assert_eq!(common::measure(&three(11, 11, 11)).number, 4);
 }
 
 const WHOLE: [u8; 31] = [
@@ -239,9 +240,9 @@ const WHOLE: [u8; 31] = [
 fn last_sample() {
     let sample = [0, 0, 0, 0, 1, 0];
     let mut words = [1, u32::MAX - 1, 0, 5, 0];
-    assert_eq!(register::sample(&WHOLE, &mut words, &sample, &mut []), 0);
+    assert_eq!(common::sample(&WHOLE, &mut words, &sample), 0);
     assert_eq!(words, [1, u32::MAX, 0, 6, 0]);
-    assert_eq!(register::sample(&WHOLE, &mut words, &sample, &mut []), 9);
+    assert_eq!(common::sample(&WHOLE, &mut words, &sample), 9);
     assert_eq!(words, [1, u32::MAX, 0, 6, 0]);
 }
 
@@ -249,8 +250,8 @@ fn last_sample() {
 fn whole_table() {
     let table = Table::new(vec![Point::new(1)]);
     assert_eq!(table.bytes(), WHOLE);
-    assert_eq!(table::measure(&WHOLE).words, 5);
-    assert_eq!(table::measure(&WHOLE).illegal_places, 0);
+    assert_eq!(common::measure(&WHOLE).words, 5);
+    assert_eq!(common::measure(&WHOLE).illegal_places, 0);
     let mut both = Both::new(&table);
     let readings: [Reading; 3] = [Value(1), Value(1), Unknown];
     for reading in readings {

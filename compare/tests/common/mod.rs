@@ -174,6 +174,31 @@ impl Both {
     }
 }
 
+/// Measures a table; with the feature `library`, the library must say the same.
+pub fn measure(bytes: &[u8]) -> table::Measure {
+    let measure = table::measure(bytes);
+    #[cfg(feature = "library")]
+    assert_eq!(compare::library::measure(bytes), measure);
+    measure
+}
+
+/// Takes a sample that reports nothing; with the feature `library`, the library must do the same.
+pub fn sample(bytes: &[u8], words: &mut [u32], sample: &[u32]) -> u32 {
+    let call = Call::Sample {
+        words: sample.to_vec(),
+        report: 0,
+    };
+    #[cfg(feature = "library")]
+    let by_library = {
+        let mut own = words.to_vec();
+        (calls::on_library(bytes, &mut own, &call), own)
+    };
+    let outcome = calls::on_register(bytes, words, &call);
+    #[cfg(feature = "library")]
+    assert_eq!(by_library, (outcome.clone(), words.to_vec()));
+    outcome.number
+}
+
 #[derive(Clone, Copy, Debug)]
 pub enum Reading {
     Value(i64),
