@@ -1,68 +1,8 @@
-//! The library under comparison, by its C functions (include/fluviquen.h).
+//! The library under comparison, by its C functions (include/fluviquen.h). They are
+//! called as C calls them, so that what a refused call writes is seen too.
 
 use crate::table::Measure;
-
-extern "C" {
-    fn fluviquen_measure(
-        table: *const u8,
-        table_len: usize,
-        words: *mut u32,
-        illegal_places: *mut u32,
-    ) -> u32;
-    fn fluviquen_section(
-        table: *const u8,
-        table_len: usize,
-        number: u32,
-        start: *mut usize,
-        len: *mut usize,
-    ) -> u32;
-    fn fluviquen_reset(table: *const u8, table_len: usize, reg: *mut u32, reg_len: usize) -> u32;
-    fn fluviquen_start(table: *const u8, table_len: usize, reg: *mut u32, reg_len: usize) -> u32;
-    fn fluviquen_stop(table: *const u8, table_len: usize, reg: *mut u32, reg_len: usize) -> u32;
-    fn fluviquen_sample(
-        table: *const u8,
-        table_len: usize,
-        reg: *mut u32,
-        reg_len: usize,
-        sample: *const u32,
-        sample_len: usize,
-        report: *mut u32,
-        report_len: usize,
-    ) -> u32;
-    fn fluviquen_place_count(
-        table: *const u8,
-        table_len: usize,
-        reg: *const u32,
-        reg_len: usize,
-        place: usize,
-        count: *mut u32,
-    ) -> u32;
-    fn fluviquen_unknown_count(
-        table: *const u8,
-        table_len: usize,
-        reg: *const u32,
-        reg_len: usize,
-        point: usize,
-        count: *mut u32,
-    ) -> u32;
-    fn fluviquen_item_figure(
-        table: *const u8,
-        table_len: usize,
-        reg: *const u32,
-        reg_len: usize,
-        item: usize,
-        present: *mut u32,
-        percent: *mut f64,
-    ) -> u32;
-    fn fluviquen_group_figure(
-        table: *const u8,
-        table_len: usize,
-        reg: *const u32,
-        reg_len: usize,
-        present: *mut u32,
-        millionths: *mut u32,
-    ) -> u32;
-}
+use fluviquen::sys::*;
 
 pub fn measure(table: &[u8]) -> Measure {
     let mut words = u32::MAX;

@@ -22,7 +22,7 @@
 
 use std::fmt;
 
-mod sys;
+pub mod sys;
 
 /// Why a table or a call was refused, by document 01's number, 1 to 14.
 #[derive(Clone, Copy, Debug, PartialEq, Eq, Hash, PartialOrd, Ord)]

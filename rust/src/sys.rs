@@ -1,4 +1,4 @@
-//! The C functions, as include/fluviquen.h declares them.
+//! The C functions, as include/fluviquen.h declares them, for callers who lend memory of their own.
 
 extern "C" {
     pub fn fluviquen_measure(
