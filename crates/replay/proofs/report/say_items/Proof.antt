@@ -1,0 +1,33 @@
+use Prim.Native.Nat.{_-_}
+use native.Mathlib.Omega.{arith}
+use Rattle.replay.proofs.report.say_items.Statement.{statement}
+use Rattle.replay.proofs.report.say_items.Tie as tie
+
+abbrev Inv-loop : tie.InvT-loop
+Inv-loop table register items item₀ item = Unit {0}
+
+abbrev μ-loop : tie.MeasureT-loop
+μ-loop table register items item₀ item = items - item
+
+loop-holds : tie.Need-loop-holds Inv-loop μ-loop
+loop-holds c = tt
+
+say-item-requires : tie.Need-say-item-requires Inv-loop μ-loop
+say-item-requires c κs = tt
+
+add-item : tie.Need-add-item Inv-loop μ-loop
+add-item c = omega arith
+
+loop-less : tie.Need-loop-less Inv-loop μ-loop
+loop-less c = omega arith
+
+loop-again : tie.Need-loop-again Inv-loop μ-loop
+loop-again c = tt
+
+returns : tie.Need-returns Inv-loop μ-loop
+returns c = tt
+
+pub say-items-spec : {M : Type 1} → statement M
+say-items-spec =
+    tie.close
+    (tie.spec Inv-loop μ-loop loop-holds say-item-requires add-item loop-less loop-again returns)
