@@ -54,77 +54,54 @@ impl Outcome {
     }
 }
 
-/// Gives a call to the register machine, the table's bytes with it.
-pub fn on_register(bytes: &[u8], words: &mut [u32], call: &Call) -> Outcome {
-    match call {
-        Call::Reset => Outcome::of(register::reset(bytes, words)),
-        Call::Start => Outcome::of(register::start(bytes, words)),
-        Call::Stop => Outcome::of(register::stop(bytes, words)),
-        Call::Sample {
-            words: sample,
-            report,
-        } => {
-            let mut report = vec![UNTOUCHED; *report];
-            let number = register::sample(bytes, words, sample, &mut report);
-            Outcome {
+/// A call's outcome, by the functions of a module that take the table's bytes and
+/// the register's words.
+macro_rules! outcome_by {
+    ($machine:ident, $bytes:ident, $words:ident, $call:ident) => {
+        match $call {
+            Call::Reset => Outcome::of($machine::reset($bytes, $words)),
+            Call::Start => Outcome::of($machine::start($bytes, $words)),
+            Call::Stop => Outcome::of($machine::stop($bytes, $words)),
+            Call::Sample {
+                words: sample,
                 report,
-                ..Outcome::of(number)
+            } => {
+                let mut report = vec![UNTOUCHED; *report];
+                let number = $machine::sample($bytes, $words, sample, &mut report);
+                Outcome {
+                    report,
+                    ..Outcome::of(number)
+                }
+            }
+            Call::PlaceCount(place) => {
+                let (number, count) = $machine::place_count($bytes, $words, *place);
+                Outcome::with(number, Answer::Count(count))
+            }
+            Call::UnknownCount(point) => {
+                let (number, count) = $machine::unknown_count($bytes, $words, *point);
+                Outcome::with(number, Answer::Count(count))
+            }
+            Call::ItemFigure(item) => {
+                let (number, figure) = $machine::item_figure($bytes, $words, *item);
+                Outcome::with(number, Answer::Item(figure))
+            }
+            Call::GroupFigure => {
+                let (number, figure) = $machine::group_figure($bytes, $words);
+                Outcome::with(number, Answer::Group(figure))
             }
         }
-        Call::PlaceCount(place) => {
-            let (number, count) = register::place_count(bytes, words, *place);
-            Outcome::with(number, Answer::Count(count))
-        }
-        Call::UnknownCount(point) => {
-            let (number, count) = register::unknown_count(bytes, words, *point);
-            Outcome::with(number, Answer::Count(count))
-        }
-        Call::ItemFigure(item) => {
-            let (number, figure) = register::item_figure(bytes, words, *item);
-            Outcome::with(number, Answer::Item(figure))
-        }
-        Call::GroupFigure => {
-            let (number, figure) = register::group_figure(bytes, words);
-            Outcome::with(number, Answer::Group(figure))
-        }
-    }
+    };
+}
+
+/// Gives a call to the register machine, the table's bytes with it.
+pub fn on_register(bytes: &[u8], words: &mut [u32], call: &Call) -> Outcome {
+    outcome_by!(register, bytes, words, call)
 }
 
 /// Gives a call to the library, the table's bytes with it.
 #[cfg(feature = "library")]
 pub fn on_library(bytes: &[u8], words: &mut [u32], call: &Call) -> Outcome {
-    match call {
-        Call::Reset => Outcome::of(library::reset(bytes, words)),
-        Call::Start => Outcome::of(library::start(bytes, words)),
-        Call::Stop => Outcome::of(library::stop(bytes, words)),
-        Call::Sample {
-            words: sample,
-            report,
-        } => {
-            let mut report = vec![UNTOUCHED; *report];
-            let number = library::sample(bytes, words, sample, &mut report);
-            Outcome {
-                report,
-                ..Outcome::of(number)
-            }
-        }
-        Call::PlaceCount(place) => {
-            let (number, count) = library::place_count(bytes, words, *place);
-            Outcome::with(number, Answer::Count(count))
-        }
-        Call::UnknownCount(point) => {
-            let (number, count) = library::unknown_count(bytes, words, *point);
-            Outcome::with(number, Answer::Count(count))
-        }
-        Call::ItemFigure(item) => {
-            let (number, figure) = library::item_figure(bytes, words, *item);
-            Outcome::with(number, Answer::Item(figure))
-        }
-        Call::GroupFigure => {
-            let (number, figure) = library::group_figure(bytes, words);
-            Outcome::with(number, Answer::Group(figure))
-        }
-    }
+    outcome_by!(library, bytes, words, call)
 }
 
 /// Gives a call to the book.

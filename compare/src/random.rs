@@ -34,6 +34,14 @@ impl Rng {
         Rng { state: seed }
     }
 
+    /// One for each list of a run, so that a failing list is told apart.
+    pub fn of_list(seed: u64, list: usize) -> Rng {
+        Rng::new(
+            seed.wrapping_add(list as u64)
+                .wrapping_mul(0x2545_F491_4F6C_DD1D),
+        )
+    }
+
     pub fn u64(&mut self) -> u64 {
         self.state = self.state.wrapping_add(0x9E37_79B9_7F4A_7C15);
         let mut z = self.state;

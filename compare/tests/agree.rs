@@ -103,11 +103,7 @@ fn register_and_book_agree() {
     println!("COMPARE_SEED={seed:#x}");
     let mut reached = Reached::default();
     for list in 0..LISTS {
-        // A seed for each list, so that a failing one is told apart.
-        let mut rng = Rng::new(
-            seed.wrapping_add(list as u64)
-                .wrapping_mul(0x2545_F491_4F6C_DD1D),
-        );
+        let mut rng = Rng::of_list(seed, list);
         run_list(&mut rng, &mut reached);
     }
     println!("{reached:#?}");

@@ -103,12 +103,7 @@ fn call_lists_agree() {
     println!("COMPARE_SEED={seed:#x}");
     let mut reached = Reached::default();
     for list in 0..LISTS {
-        // A seed for each list, so that a failing one is told apart.
-        let mut rng = Rng::new(
-            (seed ^ 0xCA11)
-                .wrapping_add(list as u64)
-                .wrapping_mul(0x2545_F491_4F6C_DD1D),
-        );
+        let mut rng = Rng::of_list(seed ^ 0xCA11, list);
         run_list(&mut rng, list, &mut reached);
     }
     println!("{LISTS} lists, {reached:#?}");

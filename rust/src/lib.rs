@@ -22,7 +22,8 @@
 
 use std::fmt;
 
-pub mod sys;
+pub mod raw;
+mod sys;
 
 /// Why a table or a call was refused, by document 01's number, 1 to 14.
 #[derive(Clone, Copy, Debug, PartialEq, Eq, Hash, PartialOrd, Ord)]
@@ -79,11 +80,7 @@ pub struct Measure {
 
 /// Measures a table, or says why it is refused.
 pub fn measure(table: &[u8]) -> Result<Measure, Refusal> {
-    let (mut words, mut illegal_places) = (0, 0);
-    // The pointers and lengths are those of live slices and locals.
-    let number = unsafe {
-        sys::fluviquen_measure(table.as_ptr(), table.len(), &mut words, &mut illegal_places)
-    };
+    let (number, words, illegal_places) = raw::measure(table);
     accepted(number)?;
     Ok(Measure {
         words: words as usize,
@@ -93,10 +90,7 @@ pub fn measure(table: &[u8]) -> Result<Measure, Refusal> {
 
 /// The records of section 1 to 10, without their count; empty for another number.
 pub fn section(table: &[u8], number: u32) -> Result<&[u8], Refusal> {
-    let (mut start, mut len) = (0, 0);
-    let refusal = unsafe {
-        sys::fluviquen_section(table.as_ptr(), table.len(), number, &mut start, &mut len)
-    };
+    let (refusal, start, len) = raw::section(table, number);
     accepted(refusal)?;
     Ok(&table[start..start + len])
 }
@@ -137,20 +131,17 @@ impl<'a> Table<'a> {
 
 /// Begins anew: running, all counts 0. Words beyond the register stay.
 pub fn reset(table: &[u8], register: &mut [u32]) -> Result<(), Refusal> {
-    let (words, len) = (register.as_mut_ptr(), register.len());
-    accepted(unsafe { sys::fluviquen_reset(table.as_ptr(), table.len(), words, len) })
+    accepted(raw::reset(table, register))
 }
 
 /// Runs a stopped register again: sequences begin anew, counts stay.
 pub fn start(table: &[u8], register: &mut [u32]) -> Result<(), Refusal> {
-    let (words, len) = (register.as_mut_ptr(), register.len());
-    accepted(unsafe { sys::fluviquen_start(table.as_ptr(), table.len(), words, len) })
+    accepted(raw::start(table, register))
 }
 
 /// Stops a register: it takes no samples until it is started.
 pub fn stop(table: &[u8], register: &mut [u32]) -> Result<(), Refusal> {
-    let (words, len) = (register.as_mut_ptr(), register.len());
-    accepted(unsafe { sys::fluviquen_stop(table.as_ptr(), table.len(), words, len) })
+    accepted(raw::stop(table, register))
 }
 
 /// Takes a sample: guard bits (two words), unknown guard bits (two words), then
@@ -162,71 +153,31 @@ pub fn sample(
     sample: &[u32],
     report: &mut [u32],
 ) -> Result<(), Refusal> {
-    accepted(unsafe {
-        sys::fluviquen_sample(
-            table.as_ptr(),
-            table.len(),
-            register.as_mut_ptr(),
-            register.len(),
-            sample.as_ptr(),
-            sample.len(),
-            report.as_mut_ptr(),
-            report.len(),
-        )
-    })
+    accepted(raw::sample(table, register, sample, report))
 }
 
 /// A place's count.
 pub fn place_count(table: &[u8], register: &[u32], place: usize) -> Result<u32, Refusal> {
-    let mut count = 0;
-    let (words, len) = (register.as_ptr(), register.len());
-    accepted(unsafe {
-        sys::fluviquen_place_count(table.as_ptr(), table.len(), words, len, place, &mut count)
-    })?;
-    Ok(count)
+    let (number, count) = raw::place_count(table, register, place);
+    accepted(number).map(|()| count)
 }
 
 /// How often a point's reading was unknown.
 pub fn unknown_count(table: &[u8], register: &[u32], point: usize) -> Result<u32, Refusal> {
-    let mut count = 0;
-    let (words, len) = (register.as_ptr(), register.len());
-    accepted(unsafe {
-        sys::fluviquen_unknown_count(table.as_ptr(), table.len(), words, len, point, &mut count)
-    })?;
-    Ok(count)
+    let (number, count) = raw::unknown_count(table, register, point);
+    accepted(number).map(|()| count)
 }
 
 /// An item's coverage in percent; none if it has nothing to cover. Items are the
 /// points, then the crosses.
 pub fn item_figure(table: &[u8], register: &[u32], item: usize) -> Result<Option<f64>, Refusal> {
-    let (mut present, mut percent) = (0, 0.0);
-    accepted(unsafe {
-        sys::fluviquen_item_figure(
-            table.as_ptr(),
-            table.len(),
-            register.as_ptr(),
-            register.len(),
-            item,
-            &mut present,
-            &mut percent,
-        )
-    })?;
-    Ok((present == 1).then_some(percent))
+    let (number, present, percent) = raw::item_figure(table, register, item);
+    accepted(number).map(|()| (present == 1).then_some(percent))
 }
 
 /// The group's coverage in millionths of a percent; none if no weighted item has
 /// anything to cover.
 pub fn group_figure(table: &[u8], register: &[u32]) -> Result<Option<u32>, Refusal> {
-    let (mut present, mut millionths) = (0, 0);
-    accepted(unsafe {
-        sys::fluviquen_group_figure(
-            table.as_ptr(),
-            table.len(),
-            register.as_ptr(),
-            register.len(),
-            &mut present,
-            &mut millionths,
-        )
-    })?;
-    Ok((present == 1).then_some(millionths))
+    let (number, present, millionths) = raw::group_figure(table, register);
+    accepted(number).map(|()| (present == 1).then_some(millionths))
 }

@@ -1,4 +1,4 @@
-//! The C functions, as include/fluviquen.h declares them, for callers who lend memory of their own.
+//! The C functions, as include/fluviquen.h declares them.
 
 extern "C" {
     pub fn fluviquen_measure(

@@ -25,6 +25,10 @@ drop-replicate zero n x = rw sub-zero
 drop-replicate (suc k) zero x = rw zero-sub
 drop-replicate (suc k) (suc n) x = rw suc-sub-suc (drop-replicate k n x)
 
+-- the part of n - i elements from a on is its first element and the part after it
+pub part-cons : (xs : List ℕ) (a i n : ℕ) → i < n → a < length xs → take (n - i) (drop a xs) ≡ getD xs a 0 ∷ take (n - (i + 1)) (drop (a + 1) xs)
+part-cons xs a i n h k = rw (left-suc n i h, head-tail xs a 0 k)
+
 -- ---- words written at a place
 
 pub put-nil : {A : Type 0} (n : ℕ) (l : List A) → put n [] l ≡ l
@@ -89,3 +93,16 @@ pub part-back : {A : Type 0} (a n : ℕ) (xs ys : List A) → length ys ≡ n �
 unfolding put
 part-back a n xs ys h =
     rw (post-is a (a + n) xs (omega arith), h) (sym (append-assoc (take a xs) ys (drop (a + n) xs)))
+
+-- what was written from the start on
+pub front-put : {A : Type 0} (m : ℕ) (xs l : List A) → length xs ≡ m → m ≤ length l → take m (put 0 xs l) ≡ xs
+front-put m xs l e h = part-put 0 m xs l e (omega arith)
+
+-- a slice keeps its length, so that what was written had room there
+pub put-fits : {A : Type 0} (xs l l′ : List A) → l′ ≡ put 0 xs l → length l′ ≡ length l → length xs ≤ length l
+put-fits xs l l′ e k = omega (arith, ap length (e ∙ put-zero xs l), length-append xs (drop (length xs) l))
+
+pub front-kept : {A : Type 0} (m : ℕ) (xs l l′ : List A) → length xs ≡ m → l′ ≡ put 0 xs l → length l′ ≡ length l → (take m l′ ≡ xs) × (m ≤ length l′)
+front-kept m xs l l′ n e k =
+    let h = put-fits xs l l′ e k in
+    (ap (take m) e ∙ front-put m xs l n (omega arith), omega arith)

@@ -27,7 +27,7 @@ use Rattle.coverage.specs.declared.tally.Tallies.{Tallies}
 use Rattle.coverage.specs.Tallies.{itemTotal, itemCovered, Tallied}
 use Rattle.coverage.specs.Items.{leastsOf, itemWith, meanOf, Within}
 use Rattle.coverage.specs.Answers.{itemAnswer, groupAnswer, TallyOf, TalliesOf}
-use Rattle.coverage.proofs.Extra.{front-kept}
+use Rattle.arrays.proofs.PutLaws.{front-kept}
 use Rattle.coverage.proofs.TallyLaws.{total-exact, covered-exact}
 use Rattle.coverage.proofs.ItemLaws.{least-there, items-few}
 

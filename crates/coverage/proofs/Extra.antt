@@ -1,30 +1,17 @@
--- Laws of lists, of elements written at a place, and of the records of crosses.
+-- Laws of numbers written at a place, and of the records of crosses.
 -- Assumes nothing.
 use mathlib.Core.Path.{_≡_, refl, ap, _∙_}
-use mathlib.Core.List.{List, _∷_, map}
+use mathlib.Core.List.{List, map}
 use Prim.Native.Nat.{ℕ, zero, suc, _+_, _-_, _*_, _≤_, _<_}
 use native.Mathlib.Omega.{arith}
 use native.Mathlib.Numerals.{add-one}
-use lib.ListN.{length, take, drop, getD, set, length-append, List·getD-eq-default}
+use lib.ListN.{length, getD, set, List·getD-eq-default}
 use Rattle.model.specs.Lists.{upFrom}
 use Rattle.model.specs.Table.{noCross}
 use Rattle.model.specs.Format.{u16, u32}
 use Rattle.model.specs.Raw.{crossesAt}
 use Rattle.arrays.specs.Put.{put}
-use Rattle.arrays.proofs.PutLaws.{head-tail, left-suc, put-nil, put-zero, put-cons, part-put}
-
--- ---- lists
-
--- the part of n - i elements from a on is its first element and the part after it
-pub part-cons : (xs : List ℕ) (a i n : ℕ) → i < n → a < length xs → take (n - i) (drop a xs) ≡ getD xs a 0 ∷ take (n - (i + 1)) (drop (a + 1) xs)
-part-cons xs a i n h k = rw (left-suc n i h, head-tail xs a 0 k)
-
--- ---- what was written from the start on: a slice keeps its length, so that it had room there
-
-pub front-kept : {A : Type 0} (m : ℕ) (xs l l′ : List A) → length xs ≡ m → l′ ≡ put 0 xs l → length l′ ≡ length l → (take m l′ ≡ xs) × (m ≤ length l′)
-front-kept m xs l l′ n e k =
-    let h : length xs ≤ length l = omega (arith, ap length (e ∙ put-zero xs l), length-append xs (drop (length xs) l)) in
-    (ap (take m) e ∙ part-put 0 m xs l n (omega arith), omega arith)
+use Rattle.arrays.proofs.PutLaws.{left-suc, put-nil, put-cons}
 
 -- ---- numbers written one after the other
 

@@ -15,7 +15,7 @@ use Rattle.model.specs.Table.{Table}
 use Rattle.model.specs.Counters.{Counter}
 use Rattle.model.specs.Figures.{inTotal, itemOf, atLeast, ofItem, total, covered}
 use Rattle.arrays.specs.Flat.{totalFlags, itemsOf}
-use Rattle.coverage.proofs.Extra.{part-cons}
+use Rattle.arrays.proofs.PutLaws.{part-cons}
 use Rattle.coverage.specs.Tallies.{itemTotal, itemCovered}
 
 -- ---- what is left of a pass

@@ -10,18 +10,14 @@ use lib.ListN.{length, take, drop, getD, set, length-append, length-map, List·g
 use lib.Seq.{getD-append-add, getD-take, getD-drop, length-take-le, ext-getD}
 use borrow.Author.Tests.{ltb-true, ltb-false}
 use Rattle.model.specs.Lists.{upFrom}
+use Rattle.model.proofs.Runs.{length-upFrom}
 use Rattle.arrays.specs.Put.{put}
 use Rattle.arrays.proofs.PutLaws.{left-suc, put-nil, put-cons, length-put}
 
 -- ---- lists by number
 
-pub length-up : (i n : ℕ) → length (upFrom i n) ≡ n
-unfolding upFrom
-length-up i zero = refl
-length-up i (suc n) = ap suc (length-up (suc i) n)
-
 pub length-numbers : {A : Type 0} (g : ℕ → A) (i n : ℕ) → length (map g (upFrom i n)) ≡ n
-length-numbers g i n = length-map (upFrom i n) g ∙ length-up i n
+length-numbers g i n = length-map (upFrom i n) g ∙ length-upFrom i n
 
 pub getD-numbers : {A : Type 0} (g : ℕ → A) (p n i : ℕ) (d : A) → i < n → getD (map g (upFrom p n)) i d ≡ g (p + i)
 unfolding upFrom

@@ -4,7 +4,7 @@ use mathlib.Core.Path.{_≡_, refl, sym, ap, ap₂, _∙_}
 use mathlib.Core.Bool.{Bool, true}
 use mathlib.Core.List.{List}
 use mathlib.Core.Option.{Option, none, some}
-use Prim.Native.Nat.{ℕ, zero, suc, _+_, _≤_}
+use Prim.Native.Nat.{ℕ, _+_, _≤_}
 use native.Mathlib.Omega.{arith}
 use lib.ListN.{length}
 use lib.Ieee.{Float}
@@ -12,12 +12,13 @@ use borrow.Author.Tests.{le-leb}
 use Rattle.model.specs.Table.{Table}
 use Rattle.model.specs.Figures.{itemCount}
 use Rattle.model.specs.Format.{pointRecord, Outcome, decoded, decode, isDecoded, accepted, tableOf}
-use Rattle.model.specs.Raw.{crossesAt, recordCount, recordsPlace, rawTable}
+use Rattle.model.specs.Raw.{recordCount, recordsPlace, rawTable}
 use Rattle.model.specs.Register.{wordsNeeded, longEnough, Answer, percent, millionths}
 use Rattle.model.proofs.RawLaws.{length-rows}
 use Rattle.model.proofs.RawExact.{raw-exact}
 use Rattle.layout.specs.Places.{layoutOf}
 use Rattle.layout.specs.declared.Layout.{Layout}
+use Rattle.coverage.proofs.Extra.{length-crosses}
 use Rattle.figures.specs.Figures.{figureCase, groupCase}
 use Rattle.table.specs.declared.answer.Facts.{Facts}
 use Rattle.register.specs.Answers.{itemAnswer, groupAnswer}
@@ -32,11 +33,6 @@ pub known-long : (f : Facts) (t : Table) (w : List ℕ) → Describes f t → wo
 known-long f t w d h = le-leb (wordsNeeded t) (length w) (omega (arith, words-by f w t d))
 
 -- ---- items
-
-length-crosses : (s : List ℕ) (c b k m : ℕ) → length (crossesAt s c b k m) ≡ m
-unfolding crossesAt
-length-crosses s c b k zero = refl
-length-crosses s c b k (suc m) = ap suc (length-crosses s (c + 13) _ _ m)
 
 -- the points and the crosses, as the layout has them
 pub items-known : (s : List ℕ) (l : Layout) → l ≡ layoutOf s → decode s ≡ decoded (tableOf s) → l .«point_count» + l .«cross_count» ≡ itemCount (tableOf s)

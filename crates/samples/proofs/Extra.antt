@@ -9,11 +9,6 @@ use lib.ListN.{length, take, drop, getD, length-append, take-append-drop}
 use lib.Seq.{take-at, drop-at, drop-drop}
 use Rattle.model.specs.Lists.{keep, count}
 use Rattle.arrays.specs.Put.{put}
-use Rattle.arrays.proofs.PutLaws.{head-tail, left-suc, put-zero, part-put}
-
--- the part of n - i elements from a on is its first element and the part after it
-pub part-cons : (xs : List ℕ) (a i n : ℕ) → i < n → a < length xs → take (n - i) (drop a xs) ≡ getD xs a 0 ∷ take (n - (i + 1)) (drop (a + 1) xs)
-part-cons xs a i n h k = rw (left-suc n i h, head-tail xs a 0 k)
 
 pub part-end : (xs : List ℕ) (i n : ℕ) → n ≤ i → take (n - i) xs ≡ []
 part-end xs i n h = let z : n - i ≡ 0 = omega arith in rw z
@@ -46,16 +41,3 @@ parts l a c p r =
     let y = take p (drop (a + c) l) in
     let z = take r (drop (a + c + p) l) in
     part l a c ∙ ap (x ++_) (part l (a + c) p ∙ ap (y ++_) (part l (a + c + p) r)) ∙ regroup x y z (drop (a + c + p + r) l)
-
--- what was written from the start on
-pub front-put : {A : Type 0} (m : ℕ) (xs l : List A) → length xs ≡ m → m ≤ length l → take m (put 0 xs l) ≡ xs
-front-put m xs l e h = part-put 0 m xs l e (omega arith)
-
--- a slice keeps its length, so that what was written had room there
-pub put-fits : {A : Type 0} (xs l l′ : List A) → l′ ≡ put 0 xs l → length l′ ≡ length l → length xs ≤ length l
-put-fits xs l l′ e k = omega (arith, ap length (e ∙ put-zero xs l), length-append xs (drop (length xs) l))
-
-pub front-kept : {A : Type 0} (m : ℕ) (xs l l′ : List A) → length xs ≡ m → l′ ≡ put 0 xs l → length l′ ≡ length l → (take m l′ ≡ xs) × (m ≤ length l′)
-front-kept m xs l l′ n e k =
-    let h = put-fits xs l l′ e k in
-    (ap (take m) e ∙ front-put m xs l n (omega arith), omega arith)

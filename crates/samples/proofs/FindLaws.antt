@@ -22,7 +22,7 @@ use Rattle.arrays.specs.Put.{put}
 use Rattle.arrays.specs.Flat.{hitFlags, kindOf, kindsOf, readingCodes, Readings}
 use Rattle.arrays.proofs.PutLaws.{part-put}
 use Rattle.samples.specs.Writes.{runsAfter, flagsAfter}
-use Rattle.samples.proofs.Extra.{front-put}
+use Rattle.arrays.proofs.PutLaws.{front-put}
 use Rattle.samples.proofs.WriteLaws.{codes-length, runs-after-length}
 
 pub kinds-length : (t : Table) → length (kindsOf (counters t)) ≡ counterTotal t

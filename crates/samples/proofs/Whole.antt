@@ -11,7 +11,7 @@ use Rattle.model.specs.Register.{counterTotal, pointTotal, sampledWords, sample
 use Rattle.arrays.specs.Put.{put}
 use Rattle.arrays.specs.Flat.{readingCodes}
 use Rattle.samples.specs.Writes.{sampleRefusal, runsAfter, flagsAfter, reportOf, countsAfter, Countable}
-use Rattle.samples.proofs.Extra.{front-kept}
+use Rattle.arrays.proofs.PutLaws.{front-kept}
 use Rattle.samples.proofs.FindLaws.{good}
 use Rattle.samples.proofs.Passed.{all-passed}
 use Rattle.samples.proofs.WriteLaws.{flags-after-length, codes-length, report-length, report-exact, countable, words-exact}

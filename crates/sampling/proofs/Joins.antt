@@ -1,54 +1,37 @@
 -- The counters of the points and those of the crosses, one after the other, are all of them; and they are few.
 -- Assumes nothing.
 use mathlib.Core.Path.{_≡_, refl, sym, ap, _∙_}
-use mathlib.Core.Bool.{Bool, true, false}
+use mathlib.Core.Bool.{true}
 use mathlib.Core.List.{List, [], _∷_, _++_, map}
 use Prim.Native.Nat.{ℕ, zero, suc, _+_, _≤_}
 use native.Mathlib.Nat.{zero-add}
 use native.Mathlib.Numerals.{add-one}
 use native.Mathlib.Omega.{arith}
-use lib.ListN.{length, take, length-append}
-use Rattle.model.specs.Lists.{upFrom, concatOf, asBit}
+use lib.ListN.{length, take, length-append, length-map}
+use Rattle.model.specs.Lists.{upFrom, asBit}
 use Rattle.model.specs.Table.{Table}
-use Rattle.model.specs.Counters.{Counter, pointCounters, crossCounters, counters}
+use Rattle.model.specs.Counters.{Counter, pointCounters, counters}
 use Rattle.model.specs.Sampling.{Stretches, coverHit, hits}
 use Rattle.model.specs.Figures.{inTotal, itemOf}
 use Rattle.model.specs.Format.{accepted, tableOf}
-use Rattle.model.specs.Register.{pointTotal, counterTotal}
+use Rattle.model.specs.Register.{pointTotal}
 use Rattle.model.proofs.Sections.{acceptance, accepted-decodes}
 use Rattle.model.proofs.Access.{points-access}
+use Rattle.model.proofs.Runs.{length-upFrom}
 use Rattle.model.proofs.Measure.{size-concat}
 use Rattle.model.proofs.MeasureBounds.{point-counters, counters-few}
 use Rattle.arrays.specs.Put.{put}
 use Rattle.arrays.specs.Flat.{hitFlags, totalFlags, kindsOf, kindOf, itemsOf, allPointCounters, allCrossCounters, pointStart, pointStarts, Tells, coverCounts, covers}
 use Rattle.points.specs.Gates.{Kinded, Flagged, Gathered}
-use Rattle.arrays.proofs.PutLaws.{put-next, part-put, length-put}
-
--- ---- lists
-
-length-map : {A B : Type 0} (f : A → B) (xs : List A) → length (map f xs) ≡ length xs
-length-map f [] = refl
-length-map f (x ∷ xs) = ap suc (length-map f xs)
-
-map-append : {A B : Type 0} (f : A → B) (xs ys : List A) → map f (xs ++ ys) ≡ map f xs ++ map f ys
-map-append f [] ys = refl
-map-append f (x ∷ xs) ys = ap (f x ∷_) (map-append f xs ys)
-
-length-from : (i n : ℕ) → length (upFrom i n) ≡ n
-unfolding upFrom
-length-from i zero = refl
-length-from i (suc n) = ap suc (length-from (suc i) n)
-
--- what was written at the front stands there
-front : {A : Type 0} (n : ℕ) (xs l : List A) → length xs ≡ n → n ≤ length l → take n (put 0 xs l) ≡ xs
-front n xs l e h = part-put 0 n xs l e (omega arith)
+use Rattle.arrays.proofs.PutLaws.{put-next, front-put}
+use Rattle.values.proofs.FlagsExact.{map-append}
 
 joined : {A : Type 0} (f : Counter → A) (xs ys : List Counter) (n : ℕ) (l m r : List A) → n ≡ length xs → n ≤ length l
     → m ≡ put 0 (map f xs) l → r ≡ put n (map f ys) m → r ≡ put 0 (map f (xs ++ ys)) l
 joined f xs ys n l m r e h a b =
     b ∙ ap (put n (map f ys)) a
     ∙ ap (λ (k : ℕ). put k (map f ys) (put 0 (map f xs) l)) (sym (zero-add n))
-    ∙ put-next 0 n (map f xs) (map f ys) l (length-map f xs ∙ sym e) (omega arith)
+    ∙ put-next 0 n (map f xs) (map f ys) l (length-map xs f ∙ sym e) (omega arith)
     ∙ ap (λ zs. put 0 zs l) (sym (map-append f xs ys))
 
 -- ---- how many there are
@@ -105,36 +88,36 @@ module _ (t : Table) (n : ℕ) (e : n ≡ pointCount t) where
 
 pub length-starts : (t : Table) → length (pointStarts t) ≡ pointTotal t + 1
 unfolding pointStarts
-length-starts t = length-map (pointStart t) (upFrom 0 (suc (pointTotal t))) ∙ length-from 0 (suc (pointTotal t)) ∙ sym (add-one (pointTotal t))
+length-starts t = length-map (upFrom 0 (suc (pointTotal t))) (pointStart t) ∙ length-upFrom 0 (suc (pointTotal t)) ∙ sym (add-one (pointTotal t))
 
 pub length-counts : (t : Table) → length (coverCounts t) ≡ pointTotal t
 unfolding coverCounts
-length-counts t = length-map (λ p. length (covers t p)) (upFrom 0 (pointTotal t)) ∙ length-from 0 (pointTotal t)
+length-counts t = length-map (upFrom 0 (pointTotal t)) (λ p. length (covers t p)) ∙ length-upFrom 0 (pointTotal t)
 
 pub length-kinds : (cs : List Counter) → length (kindsOf cs) ≡ length cs
 unfolding kindsOf
-length-kinds cs = length-map kindOf cs
+length-kinds cs = length-map cs kindOf
 
 pub length-hits : (t : Table) (w : List ℕ) (m : Stretches) (cs : List Counter) → length (hitFlags t w m cs) ≡ length cs
 unfolding hitFlags
-length-hits t w m cs = length-map (λ c. asBit (hits t w m c)) cs
+length-hits t w m cs = length-map cs (λ c. asBit (hits t w m c))
 
 pub starts-stand : (s : List ℕ) (l r : List ℕ) → accepted s ≡ true → r ≡ put 0 (pointStarts (tableOf s)) l → 17 ≤ length l
     → take (pointTotal (tableOf s) + 1) r ≡ pointStarts (tableOf s)
-starts-stand s l r a e h = let t = tableOf s in let k : pointTotal t + 1 ≤ length l = omega (arith, sixteen s a) in ap (take (pointTotal t + 1)) e ∙ front (pointTotal t + 1) (pointStarts t) l (length-starts t) k
+starts-stand s l r a e h = let t = tableOf s in let k : pointTotal t + 1 ≤ length l = omega (arith, sixteen s a) in ap (take (pointTotal t + 1)) e ∙ front-put (pointTotal t + 1) (pointStarts t) l (length-starts t) k
 
 pub counts-stand : (s : List ℕ) (l r : List ℕ) → accepted s ≡ true → r ≡ put 0 (coverCounts (tableOf s)) l → 16 ≤ length l
     → take (pointTotal (tableOf s)) r ≡ coverCounts (tableOf s)
-counts-stand s l r a e h = let t = tableOf s in let k : pointTotal t ≤ length l = omega (arith, sixteen s a) in ap (take (pointTotal t)) e ∙ front (pointTotal t) (coverCounts t) l (length-counts t) k
+counts-stand s l r a e h = let t = tableOf s in let k : pointTotal t ≤ length l = omega (arith, sixteen s a) in ap (take (pointTotal t)) e ∙ front-put (pointTotal t) (coverCounts t) l (length-counts t) k
 
 pub kinds-stand : (s : List ℕ) (l r : List ℕ) → accepted s ≡ true → r ≡ put 0 (kindsOf (allPointCounters (tableOf s))) l → 4096 ≤ length l
     → Kinded (tableOf s) r
 unfolding Kinded
-kinds-stand s l r a e h = let t = tableOf s in let k : pointCount t ≤ length l = omega (arith, points-few s a) in ap (take (pointCount t)) e ∙ front (pointCount t) (kindsOf (allPointCounters t)) l (length-kinds (allPointCounters t)) k
+kinds-stand s l r a e h = let t = tableOf s in let k : pointCount t ≤ length l = omega (arith, points-few s a) in ap (take (pointCount t)) e ∙ front-put (pointCount t) (kindsOf (allPointCounters t)) l (length-kinds (allPointCounters t)) k
 
 -- from the flags that a sample raises at the points, the gates are the cover bins that it hits
 pub gates-stand : (s w : List ℕ) (m : Stretches) (l r gate : List ℕ) → accepted s ≡ true → r ≡ put 0 (hitFlags (tableOf s) w m (allPointCounters (tableOf s))) l → 4096 ≤ length l
     → Gathered (tableOf s) r gate
     → Tells (coverHit (tableOf s) w) (tableOf s) gate
 unfolding hitFlags hits Gathered Flagged
-gates-stand s w m l r gate a e h f = let t = tableOf s in let k : pointCount t ≤ length l = omega (arith, points-few s a) in f (hits t w m) (ap (take (pointCount t)) e ∙ front (pointCount t) (hitFlags t w m (allPointCounters t)) l (length-hits t w m (allPointCounters t)) k)
+gates-stand s w m l r gate a e h f = let t = tableOf s in let k : pointCount t ≤ length l = omega (arith, points-few s a) in f (hits t w m) (ap (take (pointCount t)) e ∙ front-put (pointCount t) (hitFlags t w m (allPointCounters t)) l (length-hits t w m (allPointCounters t)) k)

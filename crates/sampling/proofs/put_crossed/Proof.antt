@@ -1,8 +1,6 @@
 use borrow.Author.Needs.{needs}
-use mathlib.Core.Path.{refl}
 use native.Mathlib.Omega.{arith}
 use Rattle.sampling.proofs.Joins.{counts-stand}
-use mathlib.Core.Path.{refl}
 use Rattle.sampling.proofs.put_crossed.Statement.{statement}
 use Rattle.sampling.proofs.put_crossed.Tie as tie
 

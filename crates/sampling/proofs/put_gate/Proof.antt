@@ -1,8 +1,6 @@
 use borrow.Author.Needs.{needs}
-use mathlib.Core.Path.{refl}
 use native.Mathlib.Omega.{arith}
 use Rattle.sampling.proofs.Joins.{starts-stand, kinds-stand, points-few}
-use mathlib.Core.Path.{refl}
 use Rattle.sampling.proofs.put_gate.Statement.{statement}
 use Rattle.sampling.proofs.put_gate.Tie as tie
 

@@ -1,8 +1,6 @@
 use borrow.Author.Needs.{needs}
-use mathlib.Core.Path.{refl}
 use native.Mathlib.Omega.{arith}
 use Rattle.sampling.proofs.Joins.{points-few, all-few, counts-stand, starts-stand, items-joined}
-use mathlib.Core.Path.{refl}
 use Rattle.sampling.proofs.put_items.Statement.{statement}
 use Rattle.sampling.proofs.put_items.Tie as tie
 

@@ -1,8 +1,6 @@
 use borrow.Author.Needs.{needs}
-use mathlib.Core.Path.{refl}
 use native.Mathlib.Omega.{arith}
 use Rattle.sampling.proofs.Joins.{points-few, all-few, counts-stand, kinds-joined}
-use mathlib.Core.Path.{refl}
 use Rattle.sampling.proofs.put_kinds.Statement.{statement}
 use Rattle.sampling.proofs.put_kinds.Tie as tie
 

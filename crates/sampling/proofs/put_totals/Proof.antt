@@ -2,7 +2,6 @@ use borrow.Author.Needs.{needs}
 use mathlib.Core.Path.{refl}
 use native.Mathlib.Omega.{arith}
 use Rattle.sampling.proofs.Joins.{points-few, all-few, totals-joined}
-use mathlib.Core.Path.{refl}
 use Rattle.sampling.proofs.put_totals.Statement.{statement}
 use Rattle.sampling.proofs.put_totals.Tie as tie
 

@@ -9,7 +9,7 @@ use Rattle.model.specs.Format.{tableOf}
 use Rattle.arrays.specs.Put.{put}
 use Rattle.arrays.specs.Flat.{kindsOf}
 use Rattle.samples.specs.Adds.{illegalFlags}
-use Rattle.samples.proofs.Extra.{front-kept}
+use Rattle.arrays.proofs.PutLaws.{front-kept}
 use Rattle.samples.proofs.FindLaws.{kinds-length}
 use borrow.Author.Needs.{needs}
 use Rattle.samples.proofs.write.report_hits.Statement.{statement}
