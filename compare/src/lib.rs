@@ -6,6 +6,7 @@
 //! * [`book`] keeps only the accepted samples and recomputes everything from them.
 //! * [`calls`] names the calls, so that register and book can be given the same list.
 //! * `library` calls the library itself (feature `library`).
+//! * [`replay`] says what the program `replay` writes for a table and a log.
 //! * [`random`] draws tables, damaged tables, call lists and foreign registers.
 
 pub mod book;
@@ -15,6 +16,7 @@ pub mod calls;
 pub mod library;
 pub mod random;
 pub mod register;
+pub mod replay;
 pub mod table;
 
 /// Bytes as spaced hex, for messages.

@@ -1088,7 +1088,7 @@ impl Search<'_> {
 
 /// Figures.
 impl Model {
-    fn items(&self) -> usize {
+    pub fn items(&self) -> usize {
         self.table.points.len() + self.table.crosses.len()
     }
 

@@ -1,0 +1,154 @@
+//! What the program `replay` writes for a table and a log, from its help text
+//! and the rules alone.
+
+use crate::register::Model;
+use std::fmt::Write;
+
+const NO_LOG: &str = "no report: the log was not taken to its end\n";
+
+/// A refusal with its meaning, as replay says it.
+pub fn reason(number: u32) -> &'static str {
+    match number {
+        1 => "the table is over 65,536 bytes",
+        2 => "a count or record of the table runs past its end",
+        3 => "a count or field of the table is outside its allowed values",
+        4 => "counts, defaults, sequences, crosses or expressions of the table do not agree",
+        5 => "the table has bytes after section ten",
+        6 => "the table has over 256 places at a point, or over 1,024 products in a cross",
+        9 => "the register has taken 4,294,967,295 samples",
+        10 => "the register is stopped",
+        13 => "a value or unknown bit above a point's width",
+        _ => panic!("no replay is refused with {number}"),
+    }
+}
+
+/// An entry of a log.
+#[derive(Clone, Debug, PartialEq, Eq)]
+pub enum Entry {
+    Sample(Vec<u32>),
+    Start,
+    Stop,
+    /// A first word that is none of 0, 1, 2.
+    Other(u32),
+}
+
+/// A log's bytes: little-endian words.
+pub fn log(entries: &[Entry]) -> Vec<u8> {
+    let words = entries.iter().flat_map(|entry| match entry {
+        Entry::Sample(words) => [&[0], &words[..]].concat(),
+        Entry::Start => vec![1],
+        Entry::Stop => vec![2],
+        Entry::Other(word) => vec![*word],
+    });
+    words.flat_map(u32::to_le_bytes).collect()
+}
+
+/// The entry that the bytes begin with, and what follows it; none if they end within it.
+fn next_entry(bytes: &[u8], points: usize) -> Option<(Entry, &[u8])> {
+    let word = |at: usize| Some(u32::from_le_bytes(*bytes.get(4 * at..)?.first_chunk()?));
+    let (entry, words) = match word(0)? {
+        0 => {
+            let words: Option<Vec<u32>> = (1..5 + 2 * points).map(word).collect();
+            (Entry::Sample(words?), 5 + 2 * points)
+        }
+        1 => (Entry::Start, 1),
+        2 => (Entry::Stop, 1),
+        other => (Entry::Other(other), 1),
+    };
+    Some((entry, &bytes[4 * words..]))
+}
+
+/// A percentage to six decimals, halves up, from the exact decimal expansion of the number.
+fn six_decimals(percent: f64) -> String {
+    let exact = format!("{percent:.60}");
+    let (whole, decimals) = exact.split_once('.').expect("a decimal point");
+    let kept: u64 = format!("{whole}{}", &decimals[..6]).parse().unwrap();
+    let up = u64::from(decimals.as_bytes()[6] >= b'5');
+    millionths(kept + up)
+}
+
+fn millionths(figure: u64) -> String {
+    format!("{}.{:06} %", figure / 1_000_000, figure % 1_000_000)
+}
+
+fn or_none(figure: Option<String>) -> String {
+    figure.unwrap_or("no figure".into())
+}
+
+fn report(model: &Model, register: &[u32]) -> String {
+    let layout = model.layout();
+    let state = ["stopped", "running"][register[0] as usize];
+    let mut text = format!("samples {}, {state}\n", register[1]);
+    for place in 0..layout.places {
+        let (_, count) = model.place_count(register, place);
+        writeln!(text, "place {place}: {count}").unwrap();
+    }
+    for point in 0..layout.points {
+        let (_, count) = model.unknown_count(register, point);
+        writeln!(text, "point {point} unknown: {count}").unwrap();
+    }
+    for item in 0..model.items() {
+        let (_, figure) = model.item_figure(register, item);
+        writeln!(text, "item {item}: {}", or_none(figure.map(six_decimals))).unwrap();
+    }
+    let (_, figure) = model.group_figure(register);
+    let figure = figure.map(|figure| millionths(figure.into()));
+    writeln!(text, "group: {}\nend of report", or_none(figure)).unwrap();
+    text
+}
+
+/// What replay writes for a table that it refuses.
+pub fn refused_table(number: u32) -> String {
+    format!(
+        "table refused with {number} ({})\nno report\n",
+        reason(number)
+    )
+}
+
+/// What replay writes for the bytes of a table and of a log.
+pub fn replay(table: &[u8], mut log: &[u8]) -> String {
+    let model = match Model::read(table) {
+        Ok(model) => model,
+        Err(refusal) => return refused_table(refusal.number),
+    };
+    let layout = *model.layout();
+    let illegal: Vec<usize> = (0..layout.places)
+        .zip(model.place_kinds())
+        .filter(|(_, kind)| kind.is_illegal())
+        .map(|(place, _)| place)
+        .collect();
+    let mut register = vec![0; layout.words()];
+    assert_eq!(model.reset(&mut register), 0);
+    let mut text = String::new();
+    let mut at = 0;
+    while !log.is_empty() {
+        let Some((entry, rest)) = next_entry(log, layout.points) else {
+            return format!("{text}entry {at}: the log ends within it\n{NO_LOG}");
+        };
+        let mut raised = vec![0; illegal.len()];
+        let number = match entry {
+            Entry::Sample(words) => model.sample(&mut register, &words, &mut raised),
+            Entry::Start => model.start(&mut register),
+            Entry::Stop => model.stop(&mut register),
+            Entry::Other(word) => {
+                let why = format!("its first word is {word}, none of 0, 1, 2");
+                return format!("{text}entry {at}: {why}\n{NO_LOG}");
+            }
+        };
+        if number != 0 {
+            let why = reason(number);
+            return format!("{text}entry {at}: refused with {number} ({why})\n{NO_LOG}");
+        }
+        for (place, _) in illegal.iter().zip(&raised).filter(|(_, word)| **word == 1) {
+            let sample = register[1];
+            writeln!(
+                text,
+                "illegal place {place} raised at sample {sample} (entry {at})"
+            )
+            .unwrap();
+        }
+        log = rest;
+        at += 1;
+    }
+    text + &report(&model, &register)
+}
