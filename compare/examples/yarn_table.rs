@@ -10,7 +10,7 @@ const THREAD: u8 = 0;
 const SPEED: u8 = 1;
 const GRADE: u8 = 2;
 
-fn main() -> std::io::Result<()> {
+pub fn table() -> Table {
     let points = vec![
         // The thread sensor: unknown while it does not answer in time.
         Point::new(1),
@@ -42,9 +42,13 @@ fn main() -> std::io::Result<()> {
     ];
     // No grade while the wheel stands: value bin 2 is speed 0.
     let standing = Select::bin(0, 2);
-    let table = Table::new(points)
+    Table::new(points)
         .values(bins)
         .transitions(transitions)
-        .cross(Cross::new(&[SPEED, GRADE]).bin(Kind::Ignore, standing));
-    std::io::stdout().write_all(&table.bytes())
+        .cross(Cross::new(&[SPEED, GRADE]).bin(Kind::Ignore, standing))
+}
+
+#[allow(dead_code)]
+fn main() -> std::io::Result<()> {
+    std::io::stdout().write_all(&table().bytes())
 }

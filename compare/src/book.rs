@@ -892,6 +892,52 @@ impl Book {
     }
 }
 
+/// What a report says of a place beside its count.
+#[derive(Clone, Debug, PartialEq, Eq)]
+pub struct Label {
+    /// The item it belongs to.
+    pub item: usize,
+    pub what: &'static str,
+    pub illegal: bool,
+    /// The at-least that covers it, where it is in its item's total.
+    pub at_least: Option<u32>,
+}
+
+impl Rules {
+    fn owner(&self, place: Place) -> (usize, &'static str) {
+        let points = self.table.points.len();
+        match place {
+            Place::Part { point, .. } => (point, "bin"),
+            Place::IllegalValue { bin } => (self.table.value_bins[bin].point, "illegal bin"),
+            Place::Default { bin } => (self.table.value_bins[bin].point, "default bin"),
+            Place::CoverTransition { bin } => {
+                (self.table.transition_bins[bin].point, "transition bin")
+            }
+            Place::IllegalTransition { bin } => {
+                let point = self.table.transition_bins[bin].point;
+                (point, "illegal transition bin")
+            }
+            Place::CoverCross { cross, .. } => (points + cross, "cross bin"),
+            Place::IllegalCross { cross, .. } => (points + cross, "illegal cross bin"),
+            Place::Product { cross, .. } => (points + cross, "product"),
+        }
+    }
+
+    /// The labels of all places, in place order.
+    pub fn labels(&self) -> Vec<Label> {
+        let label = |&place: &Place| {
+            let (item, what) = self.owner(place);
+            Label {
+                item,
+                what,
+                illegal: place.is_illegal(),
+                at_least: self.item_of(place).map(|item| self.at_least(item)),
+            }
+        };
+        self.places.iter().map(label).collect()
+    }
+}
+
 /// Figures from given counts, one per place.
 impl Rules {
     pub fn item_figure(&self, item: usize, counts: &[u32]) -> Option<f64> {

@@ -1,6 +1,7 @@
 //! What the program `replay` writes for a table and a log, from its help text
 //! and the rules alone.
 
+use crate::book::{Label, Rules};
 use crate::register::Model;
 use std::fmt::Write;
 
@@ -75,21 +76,36 @@ fn or_none(figure: Option<String>) -> String {
     figure.unwrap_or("no figure".into())
 }
 
-fn report(model: &Model, register: &[u32]) -> String {
+fn owner(item: usize, points: usize) -> String {
+    match item.checked_sub(points) {
+        None => format!("point {item}"),
+        Some(cross) => format!("cross {cross}"),
+    }
+}
+
+fn report(model: &Model, labels: &[Label], register: &[u32]) -> String {
     let layout = model.layout();
+    let points = layout.points;
     let state = ["stopped", "running"][register[0] as usize];
     let mut text = format!("samples {}, {state}\n", register[1]);
-    for place in 0..layout.places {
+    for (place, label) in labels.iter().enumerate() {
         let (_, count) = model.place_count(register, place);
-        writeln!(text, "place {place}: {count}").unwrap();
+        let standing = match label.at_least {
+            None => "not in the total",
+            Some(at_least) if count < at_least => "uncovered",
+            Some(_) => "covered",
+        };
+        let (owner, what) = (owner(label.item, points), label.what);
+        writeln!(text, "place {place}: {count} ({owner}, {what}, {standing})").unwrap();
     }
-    for point in 0..layout.points {
+    for point in 0..points {
         let (_, count) = model.unknown_count(register, point);
         writeln!(text, "point {point} unknown: {count}").unwrap();
     }
     for item in 0..model.items() {
         let (_, figure) = model.item_figure(register, item);
-        writeln!(text, "item {item}: {}", or_none(figure.map(six_decimals))).unwrap();
+        let figure = or_none(figure.map(six_decimals));
+        writeln!(text, "item {item}: {figure} ({})", owner(item, points)).unwrap();
     }
     let (_, figure) = model.group_figure(register);
     let figure = figure.map(|figure| millionths(figure.into()));
@@ -112,10 +128,9 @@ pub fn replay(table: &[u8], mut log: &[u8]) -> String {
         Err(refusal) => return refused_table(refusal.number),
     };
     let layout = *model.layout();
+    let labels = Rules::read(table).expect("an accepted table").labels();
     let illegal: Vec<usize> = (0..layout.places)
-        .zip(model.place_kinds())
-        .filter(|(_, kind)| kind.is_illegal())
-        .map(|(place, _)| place)
+        .filter(|&place| labels[place].illegal)
         .collect();
     let mut register = vec![0; layout.words()];
     assert_eq!(model.reset(&mut register), 0);
@@ -150,5 +165,5 @@ pub fn replay(table: &[u8], mut log: &[u8]) -> String {
         log = rest;
         at += 1;
     }
-    text + &report(&model, &register)
+    text + &report(&model, &labels, &register)
 }

@@ -157,12 +157,29 @@ fn logs_agree() {
     assert!(illegal > 200);
 }
 
-/// The second program's words in the rule's own examples.
+#[path = "../examples/yarn_table.rs"]
+mod yarn_table;
+
+/// The table and the log that ship with the program, and what it must write of them.
+#[test]
+fn the_log_that_ships() {
+    let shipped = |name: &str| {
+        let folder = concat!(env!("CARGO_MANIFEST_DIR"), "/../crates/replay");
+        fs::read(Path::new(folder).join(name)).unwrap()
+    };
+    let table = shipped("data/table");
+    assert_eq!(table, yarn_table::table().bytes());
+    let expected = String::from_utf8(shipped("stdout")).unwrap();
+    assert_eq!(replay(&table, &shipped("data/log")), expected);
+}
+
+/// The smallest table of document 01, by its own figures.
 #[test]
 fn the_smallest_table() {
     let entries = log(&[sample(1, 0), sample(1, 0), sample(0, 1)]);
-    let expected = "samples 3, running\nplace 0: 0\nplace 1: 2\npoint 0 unknown: 1\n\
-                    item 0: 50.000000 %\ngroup: 50.000000 %\nend of report\n";
+    let expected = "samples 3, running\nplace 0: 0 (point 0, bin, uncovered)\n\
+                    place 1: 2 (point 0, bin, covered)\npoint 0 unknown: 1\n\
+                    item 0: 50.000000 % (point 0)\ngroup: 50.000000 %\nend of report\n";
     assert_eq!(replay(&smallest(), &entries), expected);
     let folder = folder("smallest");
     let (table, log) = (
@@ -171,8 +188,9 @@ fn the_smallest_table() {
     );
     assert_eq!(run(&table, &log), expected);
     let empty = file(&folder, "empty", &[]);
-    let expected = "samples 0, running\nplace 0: 0\nplace 1: 0\npoint 0 unknown: 0\n\
-                    item 0: 0.000000 %\ngroup: 0.000000 %\nend of report\n";
+    let expected = "samples 0, running\nplace 0: 0 (point 0, bin, uncovered)\n\
+                    place 1: 0 (point 0, bin, uncovered)\npoint 0 unknown: 0\n\
+                    item 0: 0.000000 % (point 0)\ngroup: 0.000000 %\nend of report\n";
     assert_eq!(run(&table, &empty), expected);
 }
 
@@ -306,7 +324,7 @@ fn files_that_cannot_be_read() {
 
     // Permissions bind everyone but root.
     let shut = file(&folder, "shut", &smallest());
-    fs::set_permissions(&shut, fs::Permissions::from_mode(0)).unwrap();
+    fs::set_permissions(&shut, fs::Permissions::from_mode(0o000)).unwrap();
     let denied = "permission denied";
     let as_nobody = |args: [&Path; 2]| {
         let open = OpenFolder::with(&args);

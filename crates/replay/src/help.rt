@@ -28,11 +28,14 @@ fn say_report() {
     say(b"The report is lines of text on standard output:\n");
     say(b"  illegal place P raised at sample S (entry E)  (as it happens)\n");
     say(b"  samples N, running  (or: stopped)\n");
-    say(b"  place P: COUNT\n");
+    say(b"  place P: COUNT (OWNER, WHAT, STANDING)\n");
     say(b"  point P unknown: COUNT\n");
-    say(b"  item I: PERCENT %  (or: no figure; the points, then the crosses)\n");
+    say(b"  item I: PERCENT % (OWNER)  (or: no figure; the points, then the crosses)\n");
     say(b"  group: PERCENT %  (or: no figure)\n");
     say(b"  end of report\n");
+    say(b"OWNER is point N or cross N. WHAT is bin, default bin, illegal bin, transition bin,\n");
+    say(b"illegal transition bin, cross bin, illegal cross bin or product. STANDING is covered\n");
+    say(b"(its count has the owner's at-least), uncovered, or not in the total.\n");
 }
 
 fn say_percents() {

@@ -33,13 +33,13 @@ fn no_log() {
 
 // Takes the log's entries with a new register, and writes the report if it came to the log's end.
 fn take_log(table: &[u8], kinds: &[u8], f: Facts, fd: i32, path: &[u8])
-    requires { ⌜ Few f ⌝ }
+    requires { ⌜ (accepted (now table) ≡ true) × Few f ⌝ }
 {
     let mut register = [0u32; 14482];
     let mut report = [0u32; 12416];
     register::reset(table, &mut register);
     if take_all(&mut register, &mut report, table, kinds, f, fd, path) {
-        write_report(table, &register, f);
+        write_report(table, &register, kinds, f);
     } else {
         no_log();
     }

@@ -38,6 +38,25 @@ pub fn say_percent(millionths: u64) {
     say(b" %");
 }
 
+fn say_if(number: u32, own: u32, text: &[u8]) {
+    if number == own {
+        say(text);
+    }
+}
+
+// What a counter is, by its kind in the flat arrays.
+pub fn say_kind(kind: u8) {
+    let k = kind as u32;
+    say_if(k, 0, b"bin");
+    say_if(k, 1, b"default bin");
+    say_if(k, 2, b"illegal bin");
+    say_if(k, 3, b"transition bin");
+    say_if(k, 4, b"illegal transition bin");
+    say_if(k, 5, b"cross bin");
+    say_if(k, 6, b"illegal cross bin");
+    say_if(k, 7, b"product");
+}
+
 // A refusal number and what it means.
 pub fn say_refusal(number: u32) {
     say_number(number as u64);
@@ -45,12 +64,6 @@ pub fn say_refusal(number: u32) {
     say_table_reason(number);
     say_call_reason(number);
     say(b")");
-}
-
-fn say_if(number: u32, own: u32, text: &[u8]) {
-    if number == own {
-        say(text);
-    }
 }
 
 fn say_table_reason(number: u32) {

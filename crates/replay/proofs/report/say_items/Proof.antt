@@ -4,10 +4,10 @@ use Rattle.replay.proofs.report.say_items.Statement.{statement}
 use Rattle.replay.proofs.report.say_items.Tie as tie
 
 abbrev Inv-loop : tie.InvT-loop
-Inv-loop table register items item₀ item = Unit {0}
+Inv-loop table register items points item₀ item = Unit {0}
 
 abbrev μ-loop : tie.MeasureT-loop
-μ-loop table register items item₀ item = items - item
+μ-loop table register items points item₀ item = items - item
 
 loop-holds : tie.Need-loop-holds Inv-loop μ-loop
 loop-holds c = tt

@@ -4,16 +4,16 @@ use Rattle.replay.proofs.report.say_places.Statement.{statement}
 use Rattle.replay.proofs.report.say_places.Tie as tie
 
 abbrev Inv-loop : tie.InvT-loop
-Inv-loop table register places place₀ place = Unit {0}
+Inv-loop register kinds items totals leasts points places place₀ place = Unit {0}
 
 abbrev μ-loop : tie.MeasureT-loop
-μ-loop table register places place₀ place = places - place
+μ-loop register kinds items totals leasts points places place₀ place = places - place
 
 loop-holds : tie.Need-loop-holds Inv-loop μ-loop
 loop-holds c = tt
 
 say-place-requires : tie.Need-say-place-requires Inv-loop μ-loop
-say-place-requires c κs = tt
+say-place-requires c κs = omega arith
 
 add-place : tie.Need-add-place Inv-loop μ-loop
 add-place c = omega arith
