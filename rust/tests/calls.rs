@@ -70,3 +70,22 @@ fn refusals() {
     let said = "refusal 7: the register is shorter than the table needs";
     assert_eq!(refusal.to_string(), said);
 }
+
+/// Every call, on a thread with 128 KB of stack.
+#[test]
+fn a_small_stack() {
+    let calls = || {
+        let bytes = smallest();
+        let table = Table::new(&bytes).unwrap();
+        let mut register = table.register();
+        sample(&bytes, &mut register, &ONE, &mut table.report()).unwrap();
+        stop(&bytes, &mut register).unwrap();
+        start(&bytes, &mut register).unwrap();
+        place_count(&bytes, &register, 1).unwrap();
+        unknown_count(&bytes, &register, 0).unwrap();
+        assert_eq!(item_figure(&bytes, &register, 0), Ok(Some(50.0)));
+        assert_eq!(group_figure(&bytes, &register), Ok(Some(50_000_000)));
+    };
+    let thread = std::thread::Builder::new().stack_size(128 * 1024);
+    thread.spawn(calls).unwrap().join().unwrap();
+}
