@@ -341,6 +341,51 @@ fn files_that_cannot_be_read() {
     assert_eq!(output, cannot(&open.args()[1], denied) + no_log);
 }
 
+/// A read that fails after some that did not: within the table, within an entry, between two.
+#[test]
+fn reads_that_fail() {
+    let folder = folder("reads");
+    let code = file(&folder, "failing.c", FAILING_READ.as_bytes());
+    let library = folder.join("failing.so");
+    let compiler = Command::new("cc")
+        .args(["-shared", "-fPIC", "-o"])
+        .args([&library, &code])
+        .status();
+    assert!(compiler.expect("a C compiler").success());
+    let table = file(&folder, "table", &smallest());
+    let log = file(&folder, "log", &log(&[sample(1, 0), sample(1, 0)]));
+    let after = |reads: u32| {
+        let mut command = Command::new(program());
+        command.args([&table, &log]).env("LD_PRELOAD", &library);
+        said(command.env("READS", reads.to_string()))
+    };
+    let cannot = |path: &Path| format!("cannot read {}: the system refuses\n", path.display());
+    let no_log = "no report: the log was not taken to its end\n";
+    // The table and its end take two reads; then each entry's first word and its sample take one.
+    for reads in 0..2 {
+        assert_eq!(after(reads), cannot(&table) + "no report\n", "{reads}");
+    }
+    for reads in 2..7 {
+        assert_eq!(after(reads), cannot(&log) + no_log, "{reads}");
+    }
+    assert!(after(7).ends_with("end of report\n"));
+}
+
+const FAILING_READ: &str = "
+#include <errno.h>
+#include <stdlib.h>
+#include <sys/syscall.h>
+#include <unistd.h>
+ssize_t read(int fd, void *to, size_t n) {
+    static int done;
+    if (done++ >= atoi(getenv(\"READS\"))) {
+        errno = EIO;
+        return -1;
+    }
+    return syscall(SYS_read, fd, to, n);
+}
+";
+
 /// Copies of the program and of two files where every user can reach them.
 struct OpenFolder {
     path: PathBuf,
