@@ -30,7 +30,8 @@ use Rattle.ranges.specs.Types.{Wide}
 use Rattle.layout.specs.Places.{layoutOf}
 use Rattle.layout.specs.declared.Layout.{Layout}
 use Rattle.arrays.specs.Flat.{covers, origin, meetBit}
-use Rattle.left.specs.Left.{excludedAt, leftIn, isSpan}
+use Rattle.ranges.specs.Taken.{excludedAt}
+use Rattle.left.specs.Left.{leftIn, isSpan}
 use Rattle.left.proofs.LeftLaws.{meets-left}
 use Rattle.values.specs.Points.{hasAutoAt}
 use Rattle.values.proofs.PointExact.{auto-raw, point-raw, few-counters, few-values}

@@ -15,7 +15,8 @@ use Rattle.model.specs.Counters.{CoverBin, autoCount, hasValue}
 use Rattle.model.specs.Format.{pointRecord}
 use Rattle.model.specs.Raw.{binsAt}
 use Rattle.values.specs.Points.{hasAutoAt}
-use Rattle.left.specs.Left.{excludedAt, leftIn, isSpan}
+use Rattle.ranges.specs.Taken.{excludedAt}
+use Rattle.left.specs.Left.{leftIn, isSpan}
 
 -- ---- the bins that a value bin stands for
 

@@ -20,7 +20,8 @@ ghost use Rattle.model.specs.Format.{pointRecord};
 ghost use Rattle.model.specs.Raw.{binAt, binsAt};
 ghost use Rattle.ranges.specs.Types.{Wide};
 ghost use Rattle.arrays.specs.Put.{put};
-ghost use Rattle.left.specs.Left.{excludedAt, isSpan, Placed};
+ghost use Rattle.ranges.specs.Taken.{excludedAt};
+ghost use Rattle.left.specs.Left.{isSpan, Placed};
 ghost use Rattle.covers.specs.Parts.{parts, ownParts, partsIn, autoParts, pointParts, leftBits, smallBin, Searchable};
 
 // The cover bin at b, its ranges from r on.

@@ -1,11 +1,11 @@
 // The bins that a cover bin stands for: of each whose gate is 1, whether a value from lo to hi is left. Where a gate is 0 nothing is searched.
 // The value bins: n from bins on, their ranges from ranges on. The gates stand from g on, what is written from at on.
 use arrays::put_one;
-use left::next::next_in;
 use left::portions::left_auto;
 use left::portions::left_portion;
 use left::search::left_in;
 use left::search::left_value;
+use ranges::next::next_in;
 use words::bytes::byte;
 ghost use mathlib.Core.Path.{_≡_};
 ghost use mathlib.Core.Bool.{true, _&&_};
@@ -18,7 +18,8 @@ ghost use Rattle.model.specs.Table.{span};
 ghost use Rattle.model.specs.Ranges.{sizes, portionRanges};
 ghost use Rattle.model.specs.Raw.{rangesAt};
 ghost use Rattle.arrays.specs.Put.{put};
-ghost use Rattle.left.specs.Left.{excludedAt, leftIn, isSpan, Placed};
+ghost use Rattle.ranges.specs.Taken.{excludedAt};
+ghost use Rattle.left.specs.Left.{leftIn, isSpan, Placed};
 ghost use Rattle.covers.specs.Parts.{oneValue, valueParts, portionParts, leftBits};
 
 fn is_open(gate: &[u8], g: usize) -> bool

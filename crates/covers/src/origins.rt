@@ -1,5 +1,5 @@
 // The value bin that each cover bin of a point comes of: n value bins from bins on, their ranges from ranges on.
-use left::next::next_in;
+use ranges::next::next_in;
 use values::points::auto_count;
 use values::points::has_auto;
 use values::points::lowest_at;

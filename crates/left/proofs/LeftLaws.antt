@@ -1,16 +1,16 @@
 -- What is left: the candidates one after the other.
 -- Assumes nothing.
 use mathlib.Core.Path.{_≡_, refl, sym, ap, ap₂, _∙_}
-use mathlib.Core.Bool.{Bool, true, false, not, _&&_, _||_, cond}
+use mathlib.Core.Bool.{Bool, true, false, not, _&&_, _||_, cond, and-false, or-false}
 use mathlib.Core.List.{List, [], _∷_, map}
-use Prim.Native.Nat.{ℕ, zero, suc, _+_, _-_, _≤_, _<_, min, max}
+use Prim.Native.Nat.{ℕ, suc, _+_, _-_, _≤_, _<_, min, max}
 use native.Mathlib.Omega.{arith}
-use lib.Dec.{leb, eqb}
+use lib.Dec.{leb}
 use borrow.Author.Needs.{needs}
 use borrow.Author.Tests.{eq-eqb, ne-eqb, le-leb, lt-leb, leb-true, leb-false}
 use Rattle.model.specs.Lists.{any}
-use Rattle.model.specs.Table.{Range, span, pattern, Table, excludes}
-use Rattle.model.specs.Values.{fieldValue, inRange, inRanges}
+use Rattle.model.specs.Table.{Range, span, pattern, Table}
+use Rattle.model.specs.Values.{fieldValue, inRanges}
 use Rattle.model.specs.Counters.{CoverBin, pointOf}
 use Rattle.model.specs.Format.{byte, u64, rangeRecord}
 use Rattle.model.specs.Ranges.{noValue, nextInRange, nextIn, after, coverRanges, excludedRanges, holdsIn, candidates, meetsIn}
@@ -18,7 +18,7 @@ use Rattle.model.specs.Raw.{rows, rangesAt}
 use Rattle.model.proofs.NextValue.{next-ge}
 use Rattle.model.proofs.Searches.{any-map}
 use Rattle.ranges.specs.Types.{valueAt}
-use Rattle.left.proofs.Extra.{and-no, any-none}
+use Rattle.ranges.proofs.Searches.{any-none}
 use Rattle.left.specs.Left.{isLeft, leftFrom, leftAfter, leftIn, coversAt}
 
 -- `meetsIn` is `leftIn` of the bin's ranges and the excluded ones
@@ -42,13 +42,9 @@ module _ (s : List ℕ) (cover k lo hi : ℕ) where
   pub next-of-listed : (x r : ℕ) → (k ≡ 0 → ⊥) → r ≡ nextIn (rangesAt s cover k) x → r ≡ nextIn (coversAt s cover k lo hi) x
   next-of-listed x r e h = h ∙ ap (λ (rs : List Range). nextIn rs x) (covers-listed e)
 
-  or-no : (b : Bool) → b ≡ (b || false)
-  or-no true = refl
-  or-no false = refl
-
   pub in-span : (v : ℕ) → k ≡ 0 → (leb lo v && leb v hi) ≡ inRanges (coversAt s cover k lo hi) v
   unfolding inRanges
-  in-span v e = or-no (leb lo v && leb v hi) ∙ ap (λ (rs : List Range). inRanges rs v) (covers-span e)
+  in-span v e = sym (or-false (leb lo v && leb v hi)) ∙ ap (λ (rs : List Range). inRanges rs v) (covers-span e)
 
   pub in-listed : (v : ℕ) (r : Bool) → (k ≡ 0 → ⊥) → r ≡ inRanges (rangesAt s cover k) v → r ≡ inRanges (coversAt s cover k lo hi) v
   in-listed v r e h = h ∙ ap (λ (rs : List Range). inRanges rs v) (covers-listed e)
@@ -124,7 +120,7 @@ module _ (C E : List Range) (lo hi : ℕ) where
 pub left-empty : (C E : List Range) (lo hi : ℕ) → [] ≡ C → false ≡ leftIn C E lo hi
 unfolding leftIn isLeft inRanges
 left-empty C E lo hi e =
-    sym (any-none (isLeft [] E hi) (map (λ x. nextIn [] (max lo x)) (lo ∷ map after E)) (λ v. and-no (leb v hi))) ∙ ap (λ (rs : List Range). leftIn rs E lo hi) e
+    sym (any-none (isLeft [] E hi) (map (λ x. nextIn [] (max lo x)) (lo ∷ map after E)) (λ v. and-false (leb v hi))) ∙ ap (λ (rs : List Range). leftIn rs E lo hi) e
 
 module _ (s : List ℕ) (cover k lo hi : ℕ) (E : List Range) where
   pub left-none : k ≡ 0 → false ≡ leftIn (rangesAt s cover k) E lo hi

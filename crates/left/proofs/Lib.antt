@@ -1,6 +1,3 @@
-pub mod Extra
-pub mod NextLaws
-pub mod TakenLaws
 pub mod LeftLaws
 pub mod SpanLaws
 pub mod Pieces

@@ -1,19 +1,19 @@
 -- What is left of two lists of spans is what is left of the one or of the other. By the model's own search, over a table of two bins.
 -- Assumes nothing.
 use mathlib.Core.Path.{_≡_, refl, sym, ap, ap₂, _∙_}
-use mathlib.Core.Bool.{Bool, true, false, not, _&&_, _||_, cond}
+use mathlib.Core.Bool.{Bool, true, false, not, _&&_, _||_}
 use mathlib.Core.List.{List, [], _∷_, _++_, append-nil}
 use mathlib.Core.Option.{none}
 use Prim.Native.Nat.{ℕ, _≤_, _<_}
-use Rattle.model.specs.Table.{Range, span, pattern, Kind, cover, ignore, single, ValueBin, Table, excludes}
-use Rattle.model.specs.Values.{inRange, inRanges}
-use Rattle.model.specs.Counters.{CoverBin, listed}
+use Rattle.model.specs.Table.{Range, span, pattern, Kind, cover, ignore, single, ValueBin, Table}
+use Rattle.model.specs.Values.{inRanges}
+use Rattle.model.specs.Counters.{listed}
 use Rattle.model.specs.Ranges.{noValue, coverRanges, excludedRanges, rangesOf, holdsIn, meetsIn}
-use Rattle.model.proofs.Booleans.{false-true, and-left, and-right, or-right, bool-eq}
+use Rattle.model.proofs.Booleans.{and-left, and-right, or-right, bool-eq}
 use Rattle.model.proofs.Readers.{All, all-append}
+use Rattle.model.proofs.Slices.{inRanges-append}
 use Rattle.model.proofs.NextValue.{Proper, Above, IsSpan, meets-some, some-meets}
 use Rattle.left.specs.Left.{leftIn}
-use Rattle.left.proofs.Extra.{or-assoc}
 use Rattle.left.proofs.LeftLaws.{meets-left}
 
 abbrev bin : Kind → List Range → ValueBin
@@ -61,11 +61,6 @@ some-left C E lo hi h cs es found =
     sym (meets-is C E lo hi)
     ∙ some-meets (pair C E) (listed 0 0) lo hi h (whole-proper C cs) (all-append IsSpan E [] es tt) v (found .1) (found .2) (whole-above v C cs) (holds-is C E v ∙ found .3)
 
-in-append : (A B : List Range) (v : ℕ) → inRanges (A ++ B) v ≡ (inRanges A v || inRanges B v)
-unfolding inRanges
-in-append [] B v = refl
-in-append (r ∷ A) B v = ap (inRange r v ||_) (in-append A B v) ∙ sym (or-assoc (inRange r v) (inRanges A v) (inRanges B v))
-
 module _ (A B E : List Range) (lo hi : ℕ) (h : hi < noValue) (wa : All Whole A) (wb : All Whole B) (es : All IsSpan E) where
   or-cases : (a b : Bool) {R : Type 0} → (a || b) ≡ true → (a ≡ true → R) → (b ≡ true → R) → R
   or-cases true b e f g = f refl
@@ -84,14 +79,14 @@ module _ (A B E : List Range) (lo hi : ℕ) (h : hi < noValue) (wa : All Whole A
       apart e =
           let found = left-some (A ++ B) E lo hi h e in
           let v = found .0 in
-          let inside = sym (in-append A B v) ∙ and-left (inRanges (A ++ B) v) (not (inRanges E v)) (found .3) in
+          let inside = sym (inRanges-append A B v) ∙ and-left (inRanges (A ++ B) v) (not (inRanges E v)) (found .3) in
           let outside = and-right (inRanges (A ++ B) v) (not (inRanges E v)) (found .3) in
           or-cases (inRanges A v) (inRanges B v) inside
           (λ q. or-left (leftIn A E lo hi) (leftIn B E lo hi) (some-left A E lo hi h wa es (v, found .1, found .2, and-both (inRanges A v) (not (inRanges E v)) q outside)))
           (λ q. or-right (leftIn A E lo hi) (leftIn B E lo hi) (some-left B E lo hi h wb es (v, found .1, found .2, and-both (inRanges B v) (not (inRanges E v)) q outside)))
 
       one : (v : ℕ) → lo ≤ v → v ≤ hi → (inRanges A v || inRanges B v) ≡ true → not (inRanges E v) ≡ true → leftIn (A ++ B) E lo hi ≡ true
-      one v p q e o = some-left (A ++ B) E lo hi h (all-append Whole A B wa wb) es (v, p, q, and-both (inRanges (A ++ B) v) (not (inRanges E v)) (in-append A B v ∙ e) o)
+      one v p q e o = some-left (A ++ B) E lo hi h (all-append Whole A B wa wb) es (v, p, q, and-both (inRanges (A ++ B) v) (not (inRanges E v)) (inRanges-append A B v ∙ e) o)
 
       together : (leftIn A E lo hi || leftIn B E lo hi) ≡ true → leftIn (A ++ B) E lo hi ≡ true
       together e =

@@ -3,17 +3,18 @@
 use mathlib.Core.Path.{_≡_, refl, sym, ap, ap₂, _∙_}
 use mathlib.Core.Bool.{Bool, true, false, not, _&&_, _||_, cond}
 use mathlib.Core.List.{List, [], _∷_}
-use Prim.Native.Nat.{ℕ, zero, suc, _+_, _-_, _≤_, _<_, min, max}
+use Prim.Native.Nat.{ℕ, _-_, _≤_, _<_, min, max}
 use native.Mathlib.Omega.{arith}
 use lib.Dec.{leb}
 use borrow.Author.Needs.{needs}
 use borrow.Author.Tests.{le-leb, lt-leb, leb-true, leb-false}
 use Rattle.model.specs.Lists.{any}
 use Rattle.model.specs.Table.{Range, span}
-use Rattle.model.specs.Values.{inRange, inRanges}
+use Rattle.model.specs.Values.{inRanges}
 use Rattle.model.specs.Ranges.{noValue, nextIn, after}
-use Rattle.left.specs.Left.{isLeft, leftFrom, leftAfter, leftIn}
-use Rattle.left.proofs.Extra.{any-none, any-same}
+use Rattle.left.specs.Left.{leftFrom, leftAfter, leftIn}
+use Rattle.model.proofs.Runs.{any-cong}
+use Rattle.ranges.proofs.Searches.{any-none}
 use Rattle.left.proofs.LeftLaws.{left-split, from-past, from-found}
 
 -- ---- one candidate of a span
@@ -69,7 +70,7 @@ module _ (E : List Range) (a b lo hi : ℕ) (h : hi ≤ 8589934591) where
   all-free =
       left-split (span a b ∷ []) E lo hi
       ∙ ap₂ _||_ (span-from E a b hi lo (omega arith))
-      (any-same (leftAfter (span a b ∷ []) E lo hi) (λ q. free E (min b hi) (max a (max lo (after q)))) E (λ q. span-from E a b hi (max lo (after q)) (omega arith)))
+      (any-cong (leftAfter (span a b ∷ []) E lo hi) (λ q. free E (min b hi) (max a (max lo (after q)))) E (λ q. span-from E a b hi (max lo (after q)) (omega arith)))
 
   -- nothing of it stands from lo to hi
   part-out : min b hi < max a lo → false ≡ leftIn (span a b ∷ []) E lo hi
@@ -85,7 +86,7 @@ pub part-is : (E : List Range) (a b lo hi x y : ℕ) (r : Bool) → hi ≤ 85899
 part-is E a b lo hi x y r h ex ey er =
     er ∙ all-free E x y x y (omega arith)
     ∙ ap₂ _||_ (ap₂ (free E) (let z : min y y ≡ min b hi = omega arith in z) (let z : max x x ≡ max a lo = omega arith in z))
-    (any-same (λ q. free E (min y y) (max x (max x (after q)))) (λ q. free E (min b hi) (max a (max lo (after q)))) E
+    (any-cong (λ q. free E (min y y) (max x (max x (after q)))) (λ q. free E (min b hi) (max a (max lo (after q)))) E
     (λ q. ap₂ (free E) (let z : min y y ≡ min b hi = omega arith in z) (let z : max x (max x (after q)) ≡ max a (max lo (after q)) = omega arith in z)))
     ∙ sym (all-free E a b lo hi h)
 

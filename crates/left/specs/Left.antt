@@ -1,34 +1,15 @@
--- What is left of some ranges after others took their values, over lists of ranges. proofs/LeftExact.antt: `meetsIn` of the model is this.
+-- What is left of some ranges after others took their values, over lists of ranges. proofs/LeftLaws.antt: `meetsIn` of the model is this.
 -- Assumes nothing.
-use Prim.Native.Nat.{ℕ, _+_, _≤_, max}
+use Prim.Native.Nat.{ℕ, _≤_, max}
 use mathlib.Core.Bool.{Bool, true, false, not, _&&_, cond}
 use mathlib.Core.List.{List, [], _∷_, map}
 use lib.Dec.{leb, eqb}
 use lib.ListN.{getD}
 use Rattle.model.specs.Lists.{any}
-use Rattle.model.specs.Table.{Range, span, pattern, ValueBin, excludes}
-use Rattle.model.specs.Values.{inRange, inRanges}
-use Rattle.model.specs.Format.{byte, kindFrom}
-use Rattle.model.specs.Ranges.{noValue, nextIn, ascending, after, rangesOf}
-use Rattle.model.specs.Raw.{rangesAt, binsAt}
-
--- ---- what ignore and illegal bins take
-
--- the range holds the value
-abbrev pub holding : ℕ → Range → Bool
-holding v r = inRange r v
-
--- the value bin whose record stands at b takes values from the cover bins of point p
-abbrev pub taking : List ℕ → ℕ → ℕ → Bool
-taking s b p = eqb (byte s b) p && excludes (kindFrom (byte s (b + 1)))
-
--- the bin does, and one of its ranges passes the test
-abbrev pub takenBy : (Range → Bool) → ℕ → ValueBin → Bool
-takenBy f p b = cond (eqb (b .point) p && excludes (b .kind)) (any f (b .ranges)) false
-
--- the ranges that n value bins from b on, their ranges from r on, take from point p
-abbrev pub excludedAt : List ℕ → ℕ → ℕ → ℕ → ℕ → List Range
-excludedAt s b r n p = rangesOf excludes p (binsAt s b r n)
+use Rattle.model.specs.Table.{Range, span, pattern}
+use Rattle.model.specs.Values.{inRanges}
+use Rattle.model.specs.Ranges.{noValue, nextIn, ascending, after}
+use Rattle.model.specs.Raw.{rangesAt}
 
 -- ---- what is left
 

@@ -1,8 +1,8 @@
 // Bins that have the values at some positions of listed spans: whether a value of one is left from lo to hi.
 // Positions run from `from` to `to` - 1, range after range, repeats kept. No position is above 2^60.
-use crate::next::least;
-use crate::next::less;
 use crate::search::left_part;
+use ranges::next::least;
+use ranges::next::less;
 use ranges::value_at;
 use words::bytes::byte;
 use words::bytes::read8;
@@ -14,7 +14,8 @@ ghost use Rattle.model.specs.Table.{span};
 ghost use Rattle.model.specs.Format.{rangeRecord};
 ghost use Rattle.model.specs.Ranges.{size, cutRange, cutRanges};
 ghost use Rattle.model.specs.Raw.{rangesAt};
-ghost use Rattle.left.specs.Left.{excludedAt, leftIn, isSpan, Placed};
+ghost use Rattle.ranges.specs.Taken.{excludedAt};
+ghost use Rattle.left.specs.Left.{leftIn, isSpan, Placed};
 
 // How many values a span has; no more than 2^60.
 pub fn span_size(a: u64, b: u64) -> u64

@@ -1,6 +1,4 @@
 // What is left of a bin after ignore and illegal bins took their values.
 pub mod cuts;
-pub mod next;
 pub mod portions;
 pub mod search;
-pub mod taken;

@@ -3,9 +3,9 @@ use crate::cuts::left_cut_span;
 use crate::cuts::left_cuts;
 use crate::cuts::size_at;
 use crate::cuts::span_size;
-use crate::next::larger;
-use crate::next::next_in;
 use crate::search::left_value;
+use ranges::next::larger;
+use ranges::next::next_in;
 ghost use mathlib.Core.Path.{_≡_};
 ghost use mathlib.Core.Bool.{true, cond};
 ghost use mathlib.Core.List.{[], _∷_};
@@ -16,7 +16,8 @@ ghost use Rattle.model.specs.Lists.{all};
 ghost use Rattle.model.specs.Table.{span};
 ghost use Rattle.model.specs.Ranges.{ascending, sizes, portionRanges};
 ghost use Rattle.model.specs.Raw.{rangesAt};
-ghost use Rattle.left.specs.Left.{excludedAt, leftIn, isSpan, Placed, nthOf};
+ghost use Rattle.ranges.specs.Taken.{excludedAt};
+ghost use Rattle.left.specs.Left.{leftIn, isSpan, Placed, nthOf};
 
 // ---- one bin per value
 

@@ -2,13 +2,13 @@
 // The least value that is left stands at the bin's first value from lo up, or at its first value after an excluded span.
 // The bin's ranges: k from cover on; in inner functions k = 0 stands for the values from lo to hi.
 // The value bins: n from bins on, their ranges from ranges on.
-use crate::next::larger;
-use crate::next::least;
-use crate::next::next_in;
-use crate::next::next_in_span;
-use crate::taken::excluded;
-use crate::taken::in_ranges;
-use crate::taken::takes;
+use ranges::member::in_ranges;
+use ranges::next::larger;
+use ranges::next::least;
+use ranges::next::next_in;
+use ranges::next::next_in_span;
+use ranges::taken::excluded;
+use ranges::taken::takes;
 use ranges::value_at;
 use words::bytes::byte;
 use words::bytes::read2;
@@ -22,7 +22,8 @@ ghost use Rattle.model.specs.Values.{inRanges};
 ghost use Rattle.model.specs.Format.{rangeRecord};
 ghost use Rattle.model.specs.Ranges.{nextIn, after};
 ghost use Rattle.model.specs.Raw.{rangesAt, binAt};
-ghost use Rattle.left.specs.Left.{takenBy, excludedAt, leftFrom, leftAfter, leftIn, coversAt, Placed};
+ghost use Rattle.ranges.specs.Taken.{takenBy, excludedAt};
+ghost use Rattle.left.specs.Left.{leftFrom, leftAfter, leftIn, coversAt, Placed};
 
 fn next_cover(t: &[u8], cover: usize, k: usize, lo: u64, hi: u64, x: u64) -> u64
     requires { ⌜ (cover ≤ 1000000000) × (k ≤ 65535) × (x ≤ 8589934592) ⌝ }

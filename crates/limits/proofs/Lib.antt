@@ -1,5 +1,5 @@
 -- laws of lists and loops
-pub mod Extra
+pub mod RowLaws
 pub mod WalkLaws
 pub mod EntryLaws
 -- the table by places, as sums over its bytes

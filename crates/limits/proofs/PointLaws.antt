@@ -11,7 +11,7 @@ use borrow.Author.Tests.{ne-eqb, eqb-true, lt-ltb}
 use Rattle.model.specs.Lists.{all, sumOf}
 use Rattle.model.specs.Table.{Kind, cover, ignore, illegal, default, Point, Range, span, pattern, Form, single, perValue, fixed, ValueBin, TransitionBin, Table, isCover, isDefault, noPoint}
 use Rattle.model.specs.Counters.{pointAt, hasAuto, autoCount}
-use Rattle.model.specs.Format.{byte, u16, kindFrom, pointRecord}
+use Rattle.model.specs.Format.{byte, kindFrom, pointRecord}
 use Rattle.model.specs.Ranges.{rangeCount, coversOf, countersOf, transitionsOf, valueTotal, autoTotal, transitionTotal, countersAt, coversAt}
 use Rattle.model.specs.Raw.{rows, recordsPlace, recordCount, binsAt, transitionsAt, stepTotal, rangeTotal, rawTable}
 use Rattle.model.proofs.Readers.{All}
@@ -22,21 +22,17 @@ use Rattle.model.proofs.TableExact.{point-at, divisible}
 use Rattle.model.proofs.Access.{points-access, bins-access}
 use Rattle.model.proofs.Measure.{sum-add}
 use Rattle.ranges.specs.Types.{AllWide}
+use Rattle.ranges.proofs.Searches.{bins-length}
 use Rattle.layout.specs.Places.{layoutOf, Small}
 use Rattle.layout.specs.declared.Layout.{Layout}
 use Rattle.limits.specs.Walks.{Readable}
 use Rattle.limits.specs.Tallies.{Counted}
 use Rattle.limits.specs.Bins.{added, Entries, here, isSpan, spannedBy, countable, binPoint, binCovers, binSingles, barsOf, binBars, placePoint, placeSingles, placeBars, pointBelow, autosAt, countersIn}
-use Rattle.limits.proofs.Extra.{any-sum}
+use Rattle.limits.proofs.RowLaws.{any-sum}
 use Rattle.limits.proofs.EntryLaws.{added-at, sum-only}
 use Rattle.limits.proofs.ReadLaws.{read-layout, read-well, bin-points, transition-points}
 
 -- ---- what a table that was read is known to be
-
-pub bins-length : (s : List ℕ) (b r n : ℕ) → length (binsAt s b r n) ≡ n
-unfolding binsAt
-bins-length s b r zero = refl
-bins-length s b r (suc n) = ap suc (bins-length s (b + 8) (r + 17 * u16 s (b + 6)) n)
 
 spans-are : (p : Point) (rs : List Range) → All (SpanOf p) rs → all isSpan rs ≡ true
 unfolding all

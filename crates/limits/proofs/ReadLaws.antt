@@ -15,7 +15,7 @@ use Rattle.model.proofs.WellFormed.{WellFormed, layout-well-formed}
 use Rattle.model.proofs.Access.{bins-access}
 use Rattle.model.proofs.AccessTransitions.{transitions-access, transitionHeadOf}
 use Rattle.limits.specs.Walks.{Readable}
-use Rattle.limits.proofs.Extra.{all-by-number}
+use Rattle.limits.proofs.RowLaws.{all-by-number}
 
 module _ (s : List ℕ) (known : Readable s) where
   pub read-layout : Layout s (rawTable s) (length s)

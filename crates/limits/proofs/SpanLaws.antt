@@ -11,14 +11,15 @@ use lib.ListN.{length}
 use borrow.Author.Tests.{lt-ltb, le-ltb, ltb-true, ltb-false, le-leb, lt-leb, leb-true, leb-false}
 use Rattle.model.specs.Lists.{sumOf}
 use Rattle.model.specs.Table.{Range, span, pattern}
-use Rattle.model.specs.Values.{fieldValue, lowest}
-use Rattle.model.specs.Format.{byte, u64, rangeRecord, pointRecord}
+use Rattle.model.specs.Values.{fieldValue}
+use Rattle.model.specs.Format.{byte, u64, rangeRecord}
 use Rattle.model.specs.Ranges.{noValue, nextInRange, nextIn, ascending, size, sizes}
 use Rattle.model.specs.Raw.{rows, rangesAt}
 use Rattle.model.proofs.Booleans.{false-true, and-left, and-right}
 use Rattle.model.proofs.NextValue.{next-ge}
 use Rattle.words.proofs.Laws.{none-left, one-left}
-use Rattle.ranges.specs.Types.{valueAt, lowestOf, powerOf}
+use Rattle.ranges.specs.Types.{valueAt}
+use Rattle.ranges.proofs.NextLaws.{next-below}
 use Rattle.limits.specs.declared.values.Stretch.{Stretch}
 use Rattle.limits.specs.Bins.{isSpan}
 use Rattle.limits.specs.Spans.{inOrder, rising, nearerOf, FirstOf}
@@ -41,16 +42,7 @@ span-record s at a b lo hi e ea elo eb ehi =
     go true e = refl
     go false e = absurd (false-true e)
 
-pub low-is : (s : List ℕ) (point w sg low : ℕ) → w ≡ byte s point → sg ≡ byte s (point + 1) → low ≡ lowestOf w (eqb sg 1) → low ≡ lowest (pointRecord s point)
-unfolding lowestOf powerOf
-low-is s point w sg low ew es h = h ∙ ap₂ (λ (w sg : ℕ). lowestOf w (eqb sg 1)) ew es
-
 -- ---- the next value
-
-next-below : (rs : List Range) (x : ℕ) → nextIn rs x ≤ noValue
-unfolding nextIn
-next-below [] x = omega arith
-next-below (r ∷ rs) x = omega (arith, next-below rs x)
 
 span-next : (lo hi x : ℕ) → x ≤ hi → nextInRange (span lo hi) x ≡ max lo x
 span-next lo hi x h = ap (λ (b : Bool). cond b (max lo x) noValue) (le-leb x hi h)

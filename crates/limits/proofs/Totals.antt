@@ -27,7 +27,7 @@ use Rattle.limits.proofs.RawSums.{coversIn, cover-byte, illegal-byte, b
 use Rattle.limits.proofs.ReadLaws.{read-well, bin-points, transition-points}
 use Rattle.limits.proofs.PointLaws.{points-length}
 use Rattle.limits.proofs.CrossLaws.{sizeFits, crosses-fit, crosses-products}
-use Rattle.limits.proofs.Extra.{all-numbers, rows-up, walk-up}
+use Rattle.limits.proofs.RowLaws.{all-numbers, rows-up, walk-up}
 
 -- cover and illegal cross bins together
 cross-split : (c : Cross) → crossSum transitionsOf c ≡ crossSum coversIn c + crossSum illegalsOf c

@@ -1,11 +1,13 @@
 // How many values the spans of a bin have: no more than 257 are told apart, and they are counted by span.
 use ranges::lowest;
+use ranges::next::larger;
+use ranges::next::least;
 use ranges::value_at;
 use words::bytes::byte;
 use words::bytes::read8;
 ghost use mathlib.Core.Path.{_≡_};
 ghost use mathlib.Core.Bool.{true, cond};
-ghost use Prim.Native.Nat.{_+_, _≤_, min, max};
+ghost use Prim.Native.Nat.{_≤_, min};
 ghost use lib.ListN.{length};
 ghost use Rattle.model.specs.Lists.{all};
 ghost use Rattle.model.specs.Table.{span};
@@ -20,18 +22,6 @@ ghost use Rattle.limits.specs.Spans.{inOrder, rising, nearerOf, FirstOf}
 pub struct Stretch {
     pub first: u64,
     pub last: u64,
-}
-
-pub fn least(a: u64, b: u64) -> u64
-    ensures { λ r. ⌜ r ≡ min a b ⌝ }
-{
-    if a < b { a } else { b }
-}
-
-fn larger(a: u64, b: u64) -> u64
-    ensures { λ r. ⌜ r ≡ max a b ⌝ }
-{
-    if a < b { b } else { a }
 }
 
 // The span at at.

@@ -1,1 +1,5 @@
 pub mod RangeLaws
+pub mod Searches
+pub mod NextLaws
+pub mod MemberLaws
+pub mod TakenLaws

@@ -1,19 +1,20 @@
--- A range's tests, by its fields.
+-- A range's tests, by its fields; the lowest value of a point's record.
 -- Assumes nothing.
-use Prim.Native.Nat.{ℕ, _+_, _-_, _≤_, _^_}
+use Prim.Native.Nat.{ℕ, _+_, _-_, _≤_}
 use lib.Pow.{pow-mono}
-use mathlib.Core.Path.{_≡_, refl}
+use mathlib.Core.Path.{_≡_, refl, ap₂, _∙_}
 use mathlib.Core.Bool.{Bool, true, false, cond}
 use mathlib.Core.List.{List}
 use native.Mathlib.Omega.{arith}
-use lib.Dec.{leb}
+use lib.Dec.{leb, eqb}
 use lib.ListN.{length}
 use Rattle.model.specs.Table.{Point}
-use Rattle.model.specs.Format.{Test, byte, u64, valueTests, patternTests, rangeRules, rangeTests, rangeRecord, readRange}
+use Rattle.model.specs.Values.{lowest}
+use Rattle.model.specs.Format.{Test, byte, u64, valueTests, patternTests, rangeRules, rangeTests, rangeRecord, readRange, pointRecord}
 use Rattle.words.specs.Verdicts.{verdict, verdictOf, verdictIn, unlessOk}
 use Rattle.words.specs.declared.verdicts.Verdict.{Verdict}
 use Rattle.words.proofs.Laws.{verdict-record}
-use Rattle.ranges.specs.Types.{typed, powerOf}
+use Rattle.ranges.specs.Types.{typed, powerOf, lowestOf}
 
 pub verdict-in-cond : (b : Bool) (xs ys : List Test) (f : Verdict) → verdictIn (cond b xs ys) f ≡ cond b (verdictIn xs f) (verdictIn ys f)
 verdict-in-cond true xs ys f = refl
@@ -28,3 +29,7 @@ verdict-range s p patterns at = verdict-record s 17 (rangeTests s p patterns) (r
 pub power-half : (width : ℕ) → width ≤ 32 → powerOf (width - 1) ≤ 2147483648
 unfolding powerOf
 power-half width h = pow-mono {j = 31} (omega arith)
+
+pub low-record : (s : List ℕ) (point width sign low : ℕ) → width ≡ byte s point → sign ≡ byte s (point + 1) → low ≡ lowestOf width (eqb sign 1) → low ≡ lowest (pointRecord s point)
+unfolding lowestOf powerOf
+low-record s point width sign low ew es el = el ∙ ap₂ (λ (w g : ℕ). lowestOf w (eqb g 1)) ew es

@@ -1,4 +1,8 @@
-// Values and ranges in a point's type: the tests on a record's i64 fields.
+// Ranges of the table's bytes: the tests on a record's i64 fields in a point's type; below, membership, the next value, and what ignore and illegal bins take.
+pub mod member;
+pub mod next;
+pub mod taken;
+
 use words::bytes::byte;
 use words::bytes::read8;
 use words::verdicts::Verdict;

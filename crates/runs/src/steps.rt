@@ -1,6 +1,6 @@
 // The steps of a sequence, read from the table's bytes, and in which of them a reading lies.
+use ranges::member::in_ranges;
 use sequences::Steps;
-use values::member::in_ranges;
 use words::bytes::byte;
 ghost use mathlib.Core.Path.{_≡_};
 ghost use Prim.Native.Nat.{_+_, _*_, _<_, _≤_};

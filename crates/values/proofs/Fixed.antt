@@ -1,11 +1,11 @@
 -- Zeros with a 1 at each bin that gets the value are the flags of a bin of form 2.
 -- Assumes nothing.
-use mathlib.Core.Path.{_≡_, refl, sym, ap, ap₂, _∙_, subst}
-use mathlib.Core.Bool.{Bool, true, false, not, _&&_, _||_, cond}
+use mathlib.Core.Path.{_≡_, refl, sym, ap, ap₂, _∙_}
+use mathlib.Core.Bool.{Bool, true, false, _&&_, _||_, cond}
 use mathlib.Core.List.{List, [], _∷_, _++_, map}
-use Prim.Native.Nat.{ℕ, zero, suc, _+_, _-_, _*_, _/_, _≤_, _<_, min, max}
+use Prim.Native.Nat.{ℕ, zero, suc, _+_, _-_, _/_, _≤_, _<_, min, max}
 use native.Mathlib.Omega.{arith}
-use lib.Dec.{leb, eqb}
+use lib.Dec.{eqb}
 use lib.ListN.{length, take, drop, set, replicate, length-set, length-take, length-append}
 use borrow.Author.Needs.{needs}
 use borrow.Author.Tests.{eq-eqb, ne-eqb, le-leb}
@@ -14,6 +14,7 @@ use Rattle.model.specs.Table.{Range, span}
 use Rattle.model.specs.Ranges.{size, sizes}
 use Rattle.arrays.specs.Put.{put}
 use Rattle.values.specs.Flags.{inSpan, placeIn, binsOf, setAll, fixedFlags, autoFlags}
+use Rattle.values.proofs.Laws.{length-row}
 
 pub map-from : {A : Type 0} (f g : ℕ → A) (i n : ℕ) → ((j : ℕ) → i ≤ j → j < i + n → f j ≡ g j) → map f (upFrom i n) ≡ map g (upFrom i n)
 unfolding upFrom
@@ -98,11 +99,6 @@ all-put cur each last v before (r ∷ rs) xs l h fit =
         ∙ k bin low
         ∙ ap (λ (i : ℕ). put cur (setAll 0 others (set xs i 1)) l) (let z : bin ≡ 0 + bin = omega arith in z)
 
-length-from : (f : ℕ → ℕ) (i n : ℕ) → length (map f (upFrom i n)) ≡ n
-unfolding upFrom
-length-from f i zero = refl
-length-from f i (suc n) = ap suc (length-from f (suc i) n)
-
 as-bit : (b : Bool) → cond b 1 (asBit false) ≡ asBit (true && b)
 as-bit true = refl
 as-bit false = refl
@@ -112,7 +108,7 @@ pub fixed-live : (live : Bool) (cur each v n : ℕ) (rs : List Range) (l l₁ l�
 unfolding fixedFlags
 fixed-live live cur each v n rs l l₁ l₂ alive e some fit e₁ e₂ =
     let zs = map (λ k. asBit false) (upFrom 0 n) in
-    let long = length-from (λ k. asBit false) 0 n in
+    let long = length-row (λ k. asBit false) 0 n in
     e₂ ∙ ap (λ (m : ℕ). setAll cur (binsOf m (n - 1) v 0 rs) l₁) e
     ∙ ap (setAll cur ks) (e₁ ∙ ap (λ (z : List ℕ). put cur z l) (zeros 0 n))
     ∙ all-put cur (max 1 (sizes rs / n)) (n - 1) v 0 rs zs l (omega arith) (omega arith)

@@ -3,26 +3,29 @@
 use mathlib.Core.Path.{_≡_, refl, sym, ap, ap₂, _∙_}
 use mathlib.Core.Bool.{Bool, true, false, not, _&&_, cond, or-false}
 use mathlib.Core.List.{List, [], _∷_, _++_, map}
-use Prim.Native.Nat.{ℕ, zero, suc, _+_, _-_, _*_, _/_, _^_, _≤_, _<_, min, max}
+use Prim.Native.Nat.{ℕ, zero, suc, _+_, _-_, _/_, _≤_, _<_, max}
 use native.Mathlib.Omega.{arith}
 use lib.Dec.{ltb, eqb}
 use lib.ListN.{length, getD, take, drop, length-append}
 use lib.Seq.{take-all}
 use borrow.Author.Tests.{eqb-true}
 use Rattle.model.specs.Lists.{upFrom, any, oneOf, asBit}
-use Rattle.model.specs.Table.{Point, Kind, cover, ignore, illegal, default, Form, single, perValue, fixed, Range, span, pattern, ValueBin, Table, noValueBin}
+use Rattle.model.specs.Table.{Point, Kind, cover, ignore, illegal, default, Form, single, perValue, fixed, Range, span, ValueBin, Table, excludes, noValueBin}
 use Rattle.model.specs.Values.{lowest, highest, values, inRanges, distinctValues, listedValues, portion, inBin, binCount}
-use Rattle.model.specs.Ranges.{noValue, nextIn, ascending, sizes}
-use Rattle.model.specs.Counters.{CoverBin, listed, auto, Counter, valueBin, defaultBin, illegalBin, pointAt, valueBinAt, pointOf, autoCount, excludedValue, listedValue, distributed, holds, hasAuto, binCounters, valueCounters, autoCounters}
-use Rattle.model.specs.Sampling.{Reading, known, guardTrue, reading, isIn, Stretches, coverGuard, coverHit, hits}
-use Rattle.model.proofs.Booleans.{false-true}
-use Rattle.model.proofs.Readers.{All, all-at}
-use Rattle.model.proofs.NextValue.{IsSpan}
+use Rattle.model.specs.Ranges.{noValue, nextIn, ascending, sizes, rangesOf}
+use Rattle.model.specs.Counters.{listed, auto, Counter, valueBin, pointAt, valueBinAt, autoCount, excludedValue, listedValue, distributed, holds, hasAuto, binCounters, valueCounters, autoCounters}
+use Rattle.model.specs.Sampling.{Reading, known, guardTrue, reading, isIn, Stretches, coverHit, hits}
+use Rattle.model.proofs.Readers.{All}
+use Rattle.model.proofs.Runs.{any-cong}
 use Rattle.model.proofs.WellFormed.{GoodPoint, GoodBin, WellFormed}
-use Rattle.model.proofs.Exact.{SpanOf, Divisible, first-exact, portion-exact, auto-exact}
+use Rattle.model.proofs.Exact.{Divisible, first-exact, portion-exact, auto-exact}
 use Rattle.model.proofs.TableExact.{point-at, divisible}
-use Rattle.values.specs.Flags.{takes, lists, excludedIn, listedIn, Hit, hit, binsOf, fixedFlags, autoFlags, nextInSpan, nextSpan, valueFlags, coverFlags, flagsBy, binFlags, flagsIn}
+use Rattle.values.specs.Flags.{excludedIn, listedIn, Hit, hit, binsOf, fixedFlags, autoFlags, valueFlags, coverFlags, flagsBy, binFlags, flagsIn}
 use Rattle.arrays.specs.Flat.{hitFlags}
+use Rattle.ranges.specs.Taken.{holding, takenBy}
+use Rattle.ranges.proofs.MemberLaws.{in-any}
+use Rattle.ranges.proofs.TakenLaws.{any-taken}
+pub use Rattle.values.proofs.Laws.{length-row}
 use Rattle.values.proofs.Fixed.{map-from}
 use Rattle.values.proofs.Dealt.{portion-bins}
 
@@ -41,31 +44,13 @@ regroup true false true = refl
 regroup true false false = refl
 regroup false b c = refl
 
-pub length-row : {A : Type 0} (f : ℕ → A) (i n : ℕ) → length (map f (upFrom i n)) ≡ n
-unfolding upFrom
-length-row f i zero = refl
-length-row f i (suc n) = ap suc (length-row f (suc i) n)
-
 -- ---- a cover bin of each form
 
-spans-are : (p : Point) (rs : List Range) → All (SpanOf p) rs → All IsSpan rs
-spans-are p [] h = tt
-spans-are p (span lo hi ∷ rs) h = (tt, spans-are p rs (h .1))
-spans-are p (pattern bits mask ∷ rs) h = absurd (h .0)
-
-next-same : (rs : List Range) → All IsSpan rs → (x : ℕ) → nextSpan rs x ≡ nextIn rs x
-unfolding nextSpan nextIn
-next-same [] h x = refl
-next-same (span lo hi ∷ rs) h x = ap (min (nextInSpan (span lo hi) x)) (next-same rs (h .1) x)
-next-same (pattern bits mask ∷ rs) h x = absurd (h .0)
-
-module _ (live : Bool) (v : ℕ) (rs : List Range) (spans : All IsSpan rs) where
+module _ (live : Bool) (v : ℕ) (rs : List Range) where
   value-map : (n x : ℕ) → valueFlags live v rs n x ≡ map (λ y. asBit (live && eqb v y)) (ascending n rs x)
   unfolding valueFlags ascending
   value-map zero x = refl
-  value-map (suc n) x =
-      ap (λ (y : ℕ). cond (ltb y noValue) (asBit (live && eqb v y) ∷ valueFlags live v rs n (suc y)) []) (next-same rs spans x)
-      ∙ go (ltb (nextIn rs x) noValue) (value-map n (suc (nextIn rs x)))
+  value-map (suc n) x = go (ltb (nextIn rs x) noValue) (value-map n (suc (nextIn rs x)))
     where
       f : ℕ → ℕ
       f y = asBit (live && eqb v y)
@@ -100,7 +85,7 @@ cover-exact p good v live perValue rs h few =
     each-value (λ l. asBit (live && oneOf v l)) vs
     ∙ map-same (λ y. asBit (live && oneOf v (y ∷ []))) (λ y. asBit (live && eqb v y)) (λ y. ap (λ (b : Bool). asBit (live && b)) (unfold oneOf in (or-false (eqb v y)))) vs
     ∙ ap (map (λ y. asBit (live && eqb v y))) (sym (take-all 257 vs (omega arith)) ∙ sym (first-exact p good rs h))
-    ∙ sym (value-map live v rs (spans-are p rs h) 257 (lowest p))
+    ∙ sym (value-map live v rs 257 (lowest p))
   where
     vs : List ℕ
     vs = distinctValues p rs
@@ -121,6 +106,16 @@ auto-flags p good v n live =
     rs = span (lowest p) (highest p) ∷ []
 
 -- ---- the bins of a point
+
+excluded-is : (p v : ℕ) (bs : List ValueBin) → any (λ b. eqb (b .point) p && excludes (b .kind) && inRanges (b .ranges) v) bs ≡ excludedIn p v bs
+unfolding excludedIn
+excluded-is p v bs =
+    any-cong (λ b. eqb (b .point) p && excludes (b .kind) && inRanges (b .ranges) v) (takenBy (holding v) p) bs (λ b. go (eqb (b .point) p && excludes (b .kind)) (b .ranges))
+    ∙ sym (in-any (rangesOf excludes p bs) v ∙ any-taken (holding v) p bs)
+  where
+    go : (c : Bool) (rs : List Range) → (c && inRanges rs v) ≡ cond c (any (holding v) rs) false
+    go true rs = in-any rs v
+    go false rs = refl
 
 swap : (a b : Bool) → (true && (a && not b)) ≡ (not b && a)
 swap true true = refl
@@ -197,17 +192,25 @@ module _ (t : Table) (ok : WellFormed t) (w : List ℕ) (m : Stretches) (p v : �
       go true k few = at-bin b u here (good .0) (eqb-true (u .point) p k) few
       go false k few = refl
 
+  excluded-here : excludedValue t p v ≡ excludedIn p v (t .valueBins)
+  unfolding excludedValue
+  excluded-here = excluded-is p v (t .valueBins)
+
   -- The hits of the point's value counters, for a known value.
   pub flags-exact : length (valueCounters t p 0 (t .valueBins)) ≤ 256
       → hitFlags t w m (valueCounters t p 0 (t .valueBins)) ≡ flagsIn (hit w (lowest (pointAt t p)) v (excludedIn p v (t .valueBins)) (listedIn p v (t .valueBins))) p (t .valueBins)
-  unfolding hitFlags hitOf excludedValue listedValue excludedIn listedIn low
-  flags-exact few = from 0 (t .valueBins) (λ i k. ap (valueBinAt t) (let z : i ≡ 0 + i = omega arith in z)) (ok .bins) few
+  unfolding hitFlags hitOf listedValue listedIn low
+  flags-exact few =
+      from 0 (t .valueBins) (λ i k. ap (valueBinAt t) (let z : i ≡ 0 + i = omega arith in z)) (ok .bins) few
+      ∙ ap (λ (x : Bool). flagsIn (hit w (lowest (pointAt t p)) v x (listedIn p v (t .valueBins))) p (t .valueBins)) excluded-here
 
   -- The hits of its auto counters.
   pub auto-hits : hitFlags t w m (autoCounters t p)
       ≡ cond (hasAuto t p) (autoFlags (not (excludedIn p v (t .valueBins))) v (autoCount (pointAt t p)) (lowest (pointAt t p)) (highest (pointAt t p))) []
-  unfolding hitFlags excludedIn
-  auto-hits = go (hasAuto t p)
+  unfolding hitFlags
+  auto-hits =
+      go (hasAuto t p)
+      ∙ ap (λ (x : Bool). cond (hasAuto t p) (autoFlags (not x) v (autoCount (pointAt t p)) (lowest (pointAt t p)) (highest (pointAt t p))) []) excluded-here
     where
       n : ℕ
       n = autoCount (pointAt t p)
@@ -218,9 +221,8 @@ module _ (t : Table) (ok : WellFormed t) (w : List ℕ) (m : Stretches) (p v : �
           ∙ ap asBit (swap (oneOf v (portion (autoCount (pointAt t p)) k (values (pointAt t p)))) (excludedValue t p v)))
 
       go : (b : Bool) → map (λ c. asBit (hits t w m c)) (cond b (map (λ k. valueBin (auto p k)) (upFrom 0 (autoCount (pointAt t p)))) [])
-          ≡ cond b (autoFlags (not (any (takes p v) (t .valueBins))) v (autoCount (pointAt t p)) (lowest (pointAt t p)) (highest (pointAt t p))) []
+          ≡ cond b (autoFlags (not (excludedValue t p v)) v (autoCount (pointAt t p)) (lowest (pointAt t p)) (highest (pointAt t p))) []
       go true =
-          unfold excludedValue in
           (map-map flag (λ k. valueBin (auto p k)) (λ k. asBit (not (excludedValue t p v) && oneOf v (portion (autoCount (pointAt t p)) k (values (pointAt t p))))) one (upFrom 0 (autoCount (pointAt t p)))
           ∙ auto-flags (pointAt t p) (point-at t ok p) v (autoCount (pointAt t p)) (not (excludedValue t p v)))
       go false = refl

@@ -1,41 +1,29 @@
 -- Laws for code over ranges and bins that are read from bytes, in the form in which `search` applies them.
 -- Assumes nothing.
-use mathlib.Core.Path.{_≡_, refl, sym, ap, ap₂, _∙_, subst}
+use mathlib.Core.Path.{_≡_, refl, sym, ap, ap₂, _∙_}
 use mathlib.Core.Bool.{Bool, true, false, not, _&&_, _||_, cond}
 use mathlib.Core.List.{List, [], _∷_, _++_, map}
-use Prim.Native.Nat.{ℕ, zero, suc, _+_, _-_, _*_, _/_, _%_, _^_, _≤_, _<_, min, max}
+use Prim.Native.Nat.{ℕ, zero, suc, _+_, _-_, _*_, _/_, _%_, _^_, _≤_, _<_, min}
 use native.Mathlib.Omega.{arith}
-use native.Mathlib.Nat.{sub-zero}
-use lib.Dec.{leb, ltb, eqb}
-use lib.Bits.{bitAnd}
+use lib.Dec.{leb, eqb}
 use borrow.Author.Needs.{needs}
 use lib.ListN.{length, set, length-append}
 use borrow.Author.Tests.{eq-eqb, ne-eqb, leb-true, ltb-true}
-use Rattle.model.specs.Lists.{upFrom, any, all, oneOf, asBit, sumOf, bit}
-use Rattle.model.specs.Table.{Range, span, pattern, Form, single, perValue, fixed, ValueBin, excludes}
-use Rattle.model.specs.Values.{bias, fieldValue, inRange, inRanges}
+use Rattle.model.specs.Lists.{upFrom, all, asBit, sumOf, bit}
+use Rattle.model.specs.Table.{Range, span, pattern, Form, fixed}
+use Rattle.model.specs.Values.{fieldValue, inRange, inRanges}
 use Rattle.model.specs.Sampling.{guardWord, guardTrue}
 use Rattle.model.specs.Format.{byte, u16, u64, rangeRecord, kindFrom, formFrom, guardFrom}
 use Rattle.model.specs.Ranges.{size, sizes}
 use Rattle.model.proofs.Booleans.{false-true, and-left, and-right}
 use Rattle.model.specs.Raw.{rows, rangesAt, binAt, binsAt}
-use Rattle.values.specs.Flags.{takes, inSpan, placeIn, binsOf, setAll, markOne, fixedFlags, valueFlags, smallRange, coverFlags, Hit, hit, flagsBy, binFlags, flagsIn, binFits, fits, excludedIn, listedIn}
+use Rattle.values.specs.Flags.{inSpan, placeIn, binsOf, setAll, markOne, fixedFlags, valueFlags, smallRange, coverFlags, Hit, hit, flagsBy, binFlags, flagsIn, binFits, fits}
+pub use Rattle.words.proofs.Laws.{none-left, one-left}
+pub use Rattle.ranges.proofs.TakenLaws.{excludes-kind}
 use Rattle.arrays.specs.Put.{put}
 use Rattle.arrays.proofs.PutLaws.{put-nil, put-put}
 
-pub none-left : (m i : ℕ) → m ≤ i → m - i ≡ 0
-none-left m i h = omega arith
-
-pub one-left : (m i : ℕ) → i < m → m - i ≡ suc (m - (i + 1))
-one-left m i h = omega arith
-
 -- ---- fields
-
-pub excludes-kind : (k : ℕ) → (eqb k 1 || eqb k 2) ≡ excludes (kindFrom k)
-excludes-kind zero = refl
-excludes-kind (suc zero) = refl
-excludes-kind (suc (suc zero)) = refl
-excludes-kind (suc (suc (suc k))) = rw (ne-eqb (suc (suc (suc k))) 1 (λ e. omega arith), ne-eqb (suc (suc (suc k))) 2 (λ e. omega arith))
 
 pub guard-none : (w : List ℕ) (g : ℕ) → g ≡ 255 → true ≡ guardTrue w (guardFrom g)
 unfolding guardTrue
@@ -48,38 +36,6 @@ guard-some w g x y a b e p q ea eb = rw (ne-eqb g 255 e, ea, eb, p, q)
 
 pub ruleset guards = (needs, guard-none, guard-some)
 
--- ---- one range
-
-module _ (s : List ℕ) (at v : ℕ) where
-  pub is-span : (k lo hi : ℕ) → k ≡ byte s at → k ≡ 0 → lo ≡ fieldValue (u64 s (at + 1)) → hi ≡ fieldValue (u64 s (at + 9)) → (leb lo v && leb v hi) ≡ inRange (rangeRecord s at) v
-  is-span k lo hi e z p q = rw (eq-eqb (byte s at) 0 (sym e ∙ z), p, q)
-
-  pub is-pattern : (k a b u : ℕ) → k ≡ byte s at → (k ≡ 0 → ⊥) → a ≡ u64 s (at + 1) → b ≡ u64 s (at + 9) → u ≡ v - bias → eqb (bitAnd u b) a ≡ inRange (rangeRecord s at) v
-  is-pattern k a b u e z p q y = rw (ne-eqb (byte s at) 0 (λ h. z (e ∙ h)), p, q, y)
-
-pub ruleset range = (needs, is-span, is-pattern)
-
--- ---- one bin
-
-module _ (s : List ℕ) (a r p v : ℕ) where
-  pub takes-in : (q z n : ℕ) (x y : Bool) → q ≡ byte s a → z ≡ byte s (a + 1) → x ≡ excludes (kindFrom z) → n ≡ u16 s (a + 6) → (eqb q p && x) ≡ true → y ≡ inRanges (rangesAt s r n) v → y ≡ takes p v (binAt s a r)
-  takes-in q z n x y e k h m c i = i ∙ rw (← e, ← k, ← h, ← m) (go (eqb q p) x (inRanges (rangesAt s r n) v) c)
-    where
-      go : (a b y : Bool) → (a && b) ≡ true → y ≡ (a && b && y)
-      go true true y h = refl
-      go true false y h = absurd (false-true h)
-      go false b y h = absurd (false-true h)
-
-  pub takes-out : (q z : ℕ) (x : Bool) → q ≡ byte s a → z ≡ byte s (a + 1) → x ≡ excludes (kindFrom z) → (eqb q p && x) ≡ false → false ≡ takes p v (binAt s a r)
-  takes-out q z x e k h c = rw (← e, ← k, ← h) (go (eqb q p) x (inRanges (rangesAt s r (u16 s (a + 6))) v) c)
-    where
-      go : (a b y : Bool) → (a && b) ≡ false → false ≡ (a && b && y)
-      go true true y h = absurd (false-true (sym h))
-      go true false y h = refl
-      go false b y h = refl
-
-pub ruleset bin = (needs, takes-in, takes-out)
-
 -- ---- ranges in a row
 
 module _ (s : List ℕ) (at v : ℕ) where
@@ -91,19 +47,6 @@ module _ (s : List ℕ) (at v : ℕ) where
   ranges-step n i h =
       ap (λ (m : ℕ). inRanges (rangesAt s (at + 17 * i) m) v) (one-left n i h)
       ∙ ap (λ (a : ℕ). inRange (rangeRecord s (at + 17 * i)) v || inRanges (rangesAt s a (n - (i + 1))) v) (let z : at + 17 * i + 17 ≡ at + 17 * (i + 1) = omega arith in z)
-
-  module _ (n i : ℕ) (x : Bool) (inv : x ≡ inRanges (rangesAt s (at + 17 * i) (n - i)) v) where
-    pub ranges-done : n ≤ i → false ≡ x
-    unfolding rows inRanges
-    ranges-done h = sym (inv ∙ ap (λ (m : ℕ). inRanges (rangesAt s (at + 17 * i) m) v) (none-left n i h))
-
-    pub ranges-found : (r : Bool) → i < n → r ≡ inRange (rangeRecord s (at + 17 * i)) v → r ≡ true → true ≡ x
-    ranges-found r h e z = sym (inv ∙ ranges-step n i h ∙ ap (_|| inRanges (rangesAt s (at + 17 * (i + 1)) (n - (i + 1))) v) (sym e ∙ z))
-
-    pub ranges-on : (r : Bool) → i < n → r ≡ inRange (rangeRecord s (at + 17 * i)) v → r ≡ false → x ≡ inRanges (rangesAt s (at + 17 * (i + 1)) (n - (i + 1))) v
-    ranges-on r h e z = inv ∙ ranges-step n i h ∙ ap (_|| inRanges (rangesAt s (at + 17 * (i + 1)) (n - (i + 1))) v) (sym e ∙ z)
-
-pub ruleset ranges = (needs, ranges-start, ranges-done, ranges-found, ranges-on)
 
 -- ---- bins in a row
 
@@ -120,27 +63,6 @@ module _ (s : List ℕ) (a : ℕ) where
   pub bins-end : (r n i : ℕ) → n ≤ i → binsAt s (a + 8 * i) r (n - i) ≡ []
   unfolding binsAt
   bins-end r n i h = ap (λ (m : ℕ). binsAt s (a + 8 * i) r m) (none-left n i h)
-
-module _ (f : ValueBin → Bool) (s : List ℕ) (a : ℕ) where
-  pub any-start : (r n : ℕ) → any f (binsAt s a r n) ≡ any f (binsAt s (a + 8 * 0) r (n - 0))
-  any-start r n = ap (any f) (bins-start s a r n)
-
-  module _ (r n i : ℕ) (x : Bool) (inv : x ≡ any f (binsAt s (a + 8 * i) r (n - i))) where
-    pub any-done : n ≤ i → false ≡ x
-    unfolding any
-    any-done h = sym (inv ∙ ap (any f) (bins-end s a r n i h))
-
-    pub any-found : (y : Bool) → i < n → y ≡ f (binAt s (a + 8 * i) r) → y ≡ true → true ≡ x
-    unfolding any
-    any-found y h e z = sym (inv ∙ ap (any f) (bins-step s a r n i h) ∙ ap (_|| any f (binsAt s (a + 8 * (i + 1)) (r + 17 * u16 s (a + 8 * i + 6)) (n - (i + 1)))) (sym e ∙ z))
-
-    pub any-on : (y : Bool) (k : ℕ) → i < n → y ≡ f (binAt s (a + 8 * i) r) → y ≡ false → k ≡ u16 s (a + 8 * i + 6) → x ≡ any f (binsAt s (a + 8 * (i + 1)) (r + 17 * k) (n - (i + 1)))
-    unfolding any
-    any-on y k h e z q =
-        inv ∙ ap (any f) (bins-step s a r n i h) ∙ ap (_|| any f (binsAt s (a + 8 * (i + 1)) (r + 17 * u16 s (a + 8 * i + 6)) (n - (i + 1)))) (sym e ∙ z)
-        ∙ ap (λ (m : ℕ). any f (binsAt s (a + 8 * (i + 1)) (r + 17 * m) (n - (i + 1)))) (sym q)
-
-pub ruleset anys = (needs, any-start, any-done, any-found, any-on)
 
 -- ---- spans
 
@@ -259,19 +181,19 @@ same-place s at v before each x h e = ap (λ (y : ℕ). (before + y) / each) (ap
 
 -- ---- a cover bin by its form
 
-fixed-form : (form number : ℕ) → (form ≡ 0 → ⊥) → (form ≡ 1 → ⊥) → formFrom form number ≡ fixed number
+pub fixed-form : (form number : ℕ) → (form ≡ 0 → ⊥) → (form ≡ 1 → ⊥) → formFrom form number ≡ fixed number
 fixed-form zero number z o = absurd (z refl)
 fixed-form (suc zero) number z o = absurd (o refl)
 fixed-form (suc (suc n)) number z o = refl
 
-length-from : (f : ℕ → ℕ) (i n : ℕ) → length (map f (upFrom i n)) ≡ n
+pub length-row : {A : Type 0} (f : ℕ → A) (i n : ℕ) → length (map f (upFrom i n)) ≡ n
 unfolding upFrom
-length-from f i zero = refl
-length-from f i (suc n) = ap suc (length-from f (suc i) n)
+length-row f i zero = refl
+length-row f i (suc n) = ap suc (length-row f (suc i) n)
 
 pub length-fixed : (live : Bool) (v n : ℕ) (rs : List Range) → length (fixedFlags live v n rs) ≡ n
 unfolding fixedFlags
-length-fixed live v n rs = length-from _ 0 n
+length-fixed live v n rs = length-row _ 0 n
 
 module _ (low v : ℕ) (live : Bool) (form number : ℕ) (rs : List Range) where
   pub cover-single : (y : Bool) → y ≡ inRanges rs v → form ≡ 0 → coverFlags low v live (formFrom form number) rs ≡ asBit (live && y) ∷ []

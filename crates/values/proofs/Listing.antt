@@ -3,7 +3,7 @@
 use mathlib.Core.Path.{_≡_, refl, sym, ap, ap₂, _∙_}
 use mathlib.Core.Bool.{Bool, true, false, _&&_, _||_, cond}
 use mathlib.Core.List.{List, [], _∷_}
-use Prim.Native.Nat.{ℕ, zero, suc, _+_, _-_, _*_, _≤_, _<_}
+use Prim.Native.Nat.{ℕ, suc, _+_, _-_, _*_, _≤_, _<_}
 use native.Mathlib.Omega.{arith}
 use native.Mathlib.Numerals.{add-one}
 use lib.Dec.{eqb, ltb}
@@ -14,8 +14,9 @@ use Rattle.model.specs.Table.{ValueBin}
 use Rattle.model.specs.Values.{inRange, inRanges}
 use Rattle.model.specs.Format.{byte, u16, rangeRecord}
 use Rattle.model.specs.Raw.{rows, rangesAt, binAt, binsAt}
+use Rattle.ranges.proofs.Searches.{bins-length}
 use Rattle.values.specs.Flags.{lists, listedIn, firstListing}
-use Rattle.values.proofs.Laws.{bins-start, bins-step, bins-end, ranges-start, ranges-step, row-end}
+use Rattle.values.proofs.Laws.{bins-step, bins-end, ranges-start, ranges-step, row-end}
 
 -- ---- the search by places
 
@@ -65,13 +66,8 @@ first-below p v b (x ∷ bs) = go (lists p v x) (first-below p v (suc b) bs)
     go true e = lt-ltb b (b + suc (length bs)) (omega arith)
     go false e = ap (ltb (firstListing p v (suc b) bs)) (let z : b + suc (length bs) ≡ suc b + length bs = omega arith in z) ∙ e
 
-pub length-bins : (s : List ℕ) (a r n : ℕ) → length (binsAt s a r n) ≡ n
-unfolding binsAt
-length-bins s a r zero = refl
-length-bins s a r (suc n) = ap suc (length-bins s (a + 8) _ n)
-
 pub listed-first : (s : List ℕ) (a r n p v x : ℕ) → x ≡ firstListing p v 0 (binsAt s a r n) → ltb x n ≡ listedIn p v (binsAt s a r n)
 unfolding listedIn
 listed-first s a r n p v x e =
-    ap₂ ltb e (sym (length-bins s a r n) ∙ (let z : length (binsAt s a r n) ≡ 0 + length (binsAt s a r n) = omega arith in z))
+    ap₂ ltb e (sym (bins-length s a r n) ∙ (let z : length (binsAt s a r n) ≡ 0 + length (binsAt s a r n) = omega arith in z))
     ∙ first-below p v 0 (binsAt s a r n)

@@ -1,8 +1,8 @@
 -- The flags of a point over the bytes of an accepted table are the model's hits of its value and auto counters.
 -- Assumes nothing.
 use mathlib.Core.Path.{_≡_, refl, sym, ap, ap₂, _∙_}
-use mathlib.Core.Bool.{Bool, true, false, not, _&&_, _||_, cond}
-use mathlib.Core.List.{List, [], _∷_, _++_, map}
+use mathlib.Core.Bool.{Bool, true, false, not, _&&_, _||_}
+use mathlib.Core.List.{List, _++_}
 use Prim.Native.Nat.{ℕ, zero, suc, _+_, _*_, _≤_, _<_}
 use native.Mathlib.Omega.{arith}
 use lib.Dec.{leb, eqb}
@@ -14,7 +14,7 @@ use Rattle.model.specs.Values.{lowest}
 use Rattle.model.specs.Counters.{Counter, pointAt, hasAuto, valueCounters, autoCounters, transitionCounters, pointCounters, productCount, withinLimits}
 use Rattle.model.specs.Sampling.{known, reading, Stretches, hits}
 use Rattle.model.specs.Format.{byte, kindFrom, pointRecord, decode, decoded}
-use Rattle.model.specs.Raw.{rows, pointsAt, binsAt, transitionsAt, recordCount, recordsPlace, rawTable}
+use Rattle.model.specs.Raw.{binsAt, transitionsAt, recordCount, recordsPlace, rawTable}
 use Rattle.model.proofs.Booleans.{and-left}
 use Rattle.model.proofs.Sections.{acceptance}
 use Rattle.model.proofs.WellFormed.{WellFormed, well-formed}
@@ -61,7 +61,7 @@ pub hit-append : (t : Table) (w : List ℕ) (m : Stretches) (xs ys : List Counte
 unfolding hitFlags
 hit-append t w m xs ys = map-append (λ c. asBit (hits t w m c)) xs ys
 
--- ---- the point's record
+-- ---- the point's record, and the bins
 
 module _ (s : List ℕ) (t : Table) (e : decode s ≡ decoded t) (p : ℕ) (inside : p < length (t .points)) where
   pub point-raw : pointAt t p ≡ pointRecord s (recordsPlace s 0 + 11 * p)
@@ -70,6 +70,10 @@ module _ (s : List ℕ) (t : Table) (e : decode s ≡ decoded t) (p : ℕ) (insi
       let q = ap (λ (u : Table). u .points) (raw-exact s t e) in
       let many : length (t .points) ≡ recordCount s 0 = ap length q ∙ length-rows (pointRecord s) 11 (recordsPlace s 0) (recordCount s 0) in
       ap (λ (ps : List Point). getD ps p noPoint) q ∙ getD-rows (pointRecord s) 11 (recordsPlace s 0) (recordCount s 0) p noPoint (omega arith)
+
+  pub bins-raw : t .valueBins ≡ binsAt s (recordsPlace s 1) (recordsPlace s 2) (recordCount s 1)
+  unfolding rawTable
+  bins-raw = ap (λ (u : Table). u .valueBins) (raw-exact s t e)
 
   pub few-counters : length (pointCounters t p) ≤ 256
   unfolding withinLimits
@@ -95,14 +99,11 @@ module _ (s : List ℕ) (t : Table) (e : decode s ≡ decoded t) (p : ℕ) (insi
       hit-append t w m (valueCounters t p 0 (t .valueBins)) (autoCounters t p)
       ∙ ap₂ _++_
       (flags-exact t ok w m p v k few-values
-      ∙ ap₂ (λ (x : Point) (bs : List ValueBin). flagsIn (hit w (lowest x) v (excludedIn p v bs) (listedIn p v bs)) p bs) point-raw bins)
+      ∙ ap₂ (λ (x : Point) (bs : List ValueBin). flagsIn (hit w (lowest x) v (excludedIn p v bs) (listedIn p v bs)) p bs) point-raw bins-raw)
       (auto-hits t ok w m p v k
-      ∙ ap₂ (λ (x : Point) (bs : List ValueBin). autoPart (hasAuto t p) (not (excludedIn p v bs)) v x) point-raw bins
+      ∙ ap₂ (λ (x : Point) (bs : List ValueBin). autoPart (hasAuto t p) (not (excludedIn p v bs)) v x) point-raw bins-raw
       ∙ ap (λ (b : Bool). autoPart b (not (excludedIn p v (binsAt s (recordsPlace s 1) (recordsPlace s 2) (recordCount s 1)))) v (pointRecord s (recordsPlace s 0 + 11 * p)))
       (ap (λ (u : Table). hasAuto u p) (raw-exact s t e) ∙ auto-raw s p))
     where
       ok : WellFormed t
       ok = well-formed s t e
-
-      bins : t .valueBins ≡ binsAt s (recordsPlace s 1) (recordsPlace s 2) (recordCount s 1)
-      bins = unfold rawTable in (ap (λ (u : Table). u .valueBins) (raw-exact s t e))

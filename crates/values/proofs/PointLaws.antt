@@ -1,9 +1,9 @@
 -- Laws for the auto bins of a point.
 -- Assumes nothing.
-use mathlib.Core.Path.{_≡_, refl, sym, ap, ap₂, _∙_}
-use mathlib.Core.Bool.{Bool, true, false, not, _&&_, _||_, cond}
-use mathlib.Core.List.{List, [], _∷_, _++_}
-use Prim.Native.Nat.{ℕ, zero, suc, _+_, _-_, _*_, _^_, _≤_, _<_, min}
+use mathlib.Core.Path.{_≡_, sym, ap, ap₂, _∙_}
+use mathlib.Core.Bool.{Bool, true, false, not, _&&_, _||_}
+use mathlib.Core.List.{List, [], _++_}
+use Prim.Native.Nat.{ℕ, _+_, _-_, _^_, _≤_, _<_, min}
 use native.Mathlib.Omega.{arith}
 use lib.Dec.{leb, eqb}
 use lib.ListN.{length, length-append}
@@ -13,6 +13,7 @@ use Rattle.model.specs.Values.{lowest, highest}
 use Rattle.model.specs.Counters.{autoCount}
 use Rattle.model.specs.Format.{byte, u16, pointRecord}
 use Rattle.ranges.specs.Types.{powerOf, lowestOf}
+use Rattle.ranges.proofs.RangeLaws.{low-record}
 use Rattle.arrays.specs.Put.{put}
 use Rattle.model.specs.Raw.{binsAt}
 use Rattle.values.specs.Flags.{hit, flagsIn, excludedIn, listedIn, autoFlags}
@@ -43,14 +44,10 @@ pub ruleset owns = (needs, own-done, own-found, own-on)
 
 -- ---- the type of a point's record
 
-pub low-from : (s : List ℕ) (point width sign low : ℕ) → width ≡ byte s point → sign ≡ byte s (point + 1) → low ≡ lowestOf width (eqb sign 1) → low ≡ lowest (pointRecord s point)
-unfolding lowestOf powerOf
-low-from s point width sign low ew es el = el ∙ ap₂ lowestOf ew (ap (λ (z : ℕ). eqb z 1) es)
-
 module _ (s : List ℕ) (point width sign low all number most : ℕ) (ew : width ≡ byte s point) (es : sign ≡ byte s (point + 1)) (el : low ≡ lowestOf width (eqb sign 1)) (ea : all ≡ powerOf width)
     (em : most ≡ u16 s (point + 9)) (en : number ≡ min all most) where
   pub low-is : low ≡ lowest (pointRecord s point)
-  low-is = low-from s point width sign low ew es el
+  low-is = low-record s point width sign low ew es el
 
   power-is : all ≡ 2 ^ byte s point
   unfolding powerOf

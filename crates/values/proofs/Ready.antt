@@ -3,17 +3,16 @@
 use mathlib.Core.Path.{_≡_, refl, sym, ap, ap₂, _∙_, subst}
 use mathlib.Core.Bool.{Bool, true, false, _&&_, cond}
 use mathlib.Core.List.{List, [], _∷_}
-use Prim.Native.Nat.{ℕ, zero, suc, _+_, _-_, _*_, _^_, _≤_, _<_}
+use Prim.Native.Nat.{ℕ, suc, _+_, _-_, _*_, _^_, _≤_, _<_}
 use native.Mathlib.Omega.{arith}
-use lib.Dec.{leb, ltb, eqb}
+use lib.Dec.{leb}
 use lib.ListN.{length}
 use lib.Pow.{pow-mono}
 use borrow.Author.Tests.{leb-true, leb-false, lt-ltb}
 use Rattle.model.specs.Lists.{all}
 use Rattle.model.specs.Table.{Point, Range, span, pattern, ValueBin, Table}
-use Rattle.model.specs.Values.{bias, readValue, lowest, highest}
+use Rattle.model.specs.Values.{bias, readValue, highest}
 use Rattle.model.specs.Counters.{pointAt}
-use Rattle.model.specs.Ranges.{size}
 use Rattle.model.specs.Format.{u16, pointRecord, allowsPatterns, decode, decoded}
 use Rattle.model.specs.Raw.{countPlace, binsAt, recordCount, recordsPlace, rawTable}
 use Rattle.model.proofs.Readers.{All}
@@ -24,11 +23,12 @@ use Rattle.model.proofs.TableExact.{point-at}
 use Rattle.model.proofs.RawLaws.{length-rows}
 use Rattle.model.proofs.RawExact.{next-place, raw-exact, sections-whole}
 use Rattle.ranges.specs.Types.{Wide}
+use Rattle.ranges.proofs.Searches.{bins-length}
 use Rattle.values.specs.Flags.{smallRange, binFits, fits}
 use Rattle.values.specs.Points.{Near}
-use Rattle.values.proofs.Listing.{length-bins}
 use Rattle.values.proofs.ValueLaws.{pow-half}
 use Rattle.values.proofs.PointExact.{point-raw}
+pub use Rattle.values.proofs.PointExact.{bins-raw}
 
 -- ---- ranges
 
@@ -61,10 +61,6 @@ read-top p g bits h = go (p .signed) (leb (2 ^ (p .width - 1)) bits) refl
 -- ---- places
 
 module _ (s : List ℕ) (t : Table) (e : decode s ≡ decoded t) (p : ℕ) (inside : p < length (t .points)) where
-  pub bins-raw : t .valueBins ≡ binsAt s (recordsPlace s 1) (recordsPlace s 2) (recordCount s 1)
-  unfolding rawTable
-  bins-raw = ap (λ (u : Table). u .valueBins) (raw-exact s t e)
-
   pub many : length (t .points) ≡ recordCount s 0
   unfolding rawTable
   many = ap (λ (u : Table). length (u .points)) (raw-exact s t e) ∙ length-rows (pointRecord s) 11 (recordsPlace s 0) (recordCount s 0)
@@ -89,13 +85,13 @@ module _ (s : List ℕ) (t : Table) (e : decode s ≡ decoded t) (p : ℕ) (insi
         point-near = omega (arith, many);
         bins-near = omega arith;
         ranges-near = omega arith;
-        few-bins = omega (arith, bins-access s t (length s) (a .layout) .0 .high, ap length bins-raw, length-bins s (recordsPlace s 1) (recordsPlace s 2) (recordCount s 1));
+        few-bins = omega (arith, bins-access s t (length s) (a .layout) .0 .high, ap length (bins-raw s t e p inside), bins-length s (recordsPlace s 1) (recordsPlace s 2) (recordCount s 1));
         transitions-near = omega arith;
         few-transitions = omega arith;
       }
 
   pub all-fit : fits (binsAt s (recordsPlace s 1) (recordsPlace s 2) (recordCount s 1)) ≡ true
-  all-fit = ap fits (sym bins-raw) ∙ good-fits t (well-formed s t e) (t .valueBins) (well-formed s t e .bins)
+  all-fit = ap fits (sym (bins-raw s t e p inside)) ∙ good-fits t (well-formed s t e) (t .valueBins) (well-formed s t e .bins)
 
   pub good-record : GoodPoint (pointRecord s (recordsPlace s 0 + 11 * p))
   good-record = subst GoodPoint (point-raw s t e p inside) (point-at t (well-formed s t e) p)

@@ -1,26 +1,24 @@
 -- The flags of a point's value bins for a known value, bin after bin, without bin numbers.
 -- For a decoded table they are the model's `hits` over `valueCounters` (proofs/FlagsExact.antt).
 -- Assumes nothing.
-use Prim.Native.Nat.{ℕ, zero, suc, _+_, _-_, _*_, _/_, _^_, min, max}
-use mathlib.Core.Bool.{Bool, true, false, not, _&&_, cond}
+use Prim.Native.Nat.{ℕ, zero, suc, _+_, _-_, _/_, _^_, min, max}
+use mathlib.Core.Bool.{Bool, false, not, _&&_, cond}
 use mathlib.Core.List.{List, [], _∷_, _++_, map}
 use lib.Dec.{leb, ltb, eqb}
-use lib.ListN.{length, set}
+use lib.ListN.{set}
 use Rattle.model.specs.Lists.{upFrom, any, all, oneOf, asBit}
-use Rattle.model.specs.Table.{Point, Kind, cover, ignore, illegal, default, Form, single, perValue, fixed, Range, span, pattern, ValueBin, excludes}
+use Rattle.model.specs.Table.{Kind, cover, ignore, illegal, default, Form, single, perValue, fixed, Range, span, pattern, ValueBin, excludes}
 use Rattle.model.specs.Values.{inRanges}
-use Rattle.model.specs.Ranges.{size, sizes, noValue}
+use Rattle.model.specs.Ranges.{size, sizes, noValue, nextIn, rangesOf}
 use Rattle.model.specs.Sampling.{guardTrue}
 
--- the bin takes the value from the point's cover bins; the bin lists the value
-abbrev pub takes : ℕ → ℕ → ValueBin → Bool
-takes p v b = eqb (b .point) p && excludes (b .kind) && inRanges (b .ranges) v
-
+-- the bin lists the value
 abbrev pub lists : ℕ → ℕ → ValueBin → Bool
 lists p v b = eqb (b .point) p && inRanges (b .ranges) v
 
+-- an ignore or illegal bin of the point does; some bin of the point does
 unfoldable pub excludedIn : ℕ → ℕ → List ValueBin → Bool
-excludedIn p v bs = any (takes p v) bs
+excludedIn p v bs = inRanges (rangesOf excludes p bs) v
 
 unfoldable pub listedIn : ℕ → ℕ → List ValueBin → Bool
 listedIn p v bs = any (lists p v) bs
@@ -68,19 +66,11 @@ markOne cur each last v before r l = cond (inSpan r v) (set l (cur + min ((befor
 unfoldable pub fixedFlags : Bool → ℕ → ℕ → List Range → List ℕ
 fixedFlags live v n rs = map (λ k. asBit (live && oneOf k (binsOf (max 1 (sizes rs / n)) (n - 1) v 0 rs))) (upFrom 0 n)
 
--- form 1: the least value from x up of some spans, or `noValue`; the first n of them, each with its flag
-abbrev pub nextInSpan : Range → ℕ → ℕ
-nextInSpan (span lo hi) x = cond (leb x hi) (max lo x) noValue
-nextInSpan (pattern bits mask) x = noValue
-
-unfoldable pub nextSpan : List Range → ℕ → ℕ
-nextSpan [] x = noValue
-nextSpan (r ∷ rs) x = min (nextInSpan r x) (nextSpan rs x)
-
+-- form 1: the first n values from x up, each with its flag
 unfoldable pub valueFlags : Bool → ℕ → List Range → ℕ → ℕ → List ℕ
 valueFlags live v rs zero x = []
 valueFlags live v rs (suc n) x =
-    cond (ltb (nextSpan rs x) noValue) (asBit (live && eqb v (nextSpan rs x)) ∷ valueFlags live v rs n (suc (nextSpan rs x))) []
+    cond (ltb (nextIn rs x) noValue) (asBit (live && eqb v (nextIn rs x)) ∷ valueFlags live v rs n (suc (nextIn rs x))) []
 
 -- a cover bin; live: its guard holds and the value is not excluded
 unfoldable pub coverFlags : ℕ → ℕ → Bool → Form → List Range → List ℕ

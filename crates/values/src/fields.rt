@@ -1,10 +1,10 @@
 // Fields of a range, guard bits and words of a sample. Past the end of a sample every word reads as 0.
 use words::bytes::read8;
 ghost use mathlib.Core.Path.{_≡_};
-ghost use Prim.Native.Nat.{_<_, _-_, _+_};
+ghost use Prim.Native.Nat.{_<_};
 ghost use lib.ListN.{getD};
 ghost use Rattle.model.specs.Lists.{bit};
-ghost use Rattle.model.specs.Values.{fieldValue, bias};
+ghost use Rattle.model.specs.Values.{fieldValue};
 ghost use Rattle.model.specs.Sampling.{guardTrue};
 ghost use Rattle.model.specs.Format.{u64, guardFrom};
 
@@ -14,13 +14,6 @@ pub fn field(t: &[u8], at: usize) -> u64
     ensures { λ r. ⌜ r ≡ fieldValue (u64 (now (t .entry)) at) ⌝ }
 {
     ranges::value_at(read8(t, at))
-}
-
-// The bits of a value at an unsigned point.
-pub fn bits(v: u64) -> u64
-    ensures { λ r. ⌜ r ≡ v - bias ⌝ }
-{
-    if v < 2147483648 { 0 } else { v - 2147483648 }
 }
 
 pub fn word(s: &[u32], at: usize) -> u32

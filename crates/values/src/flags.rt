@@ -1,9 +1,9 @@
 // The flags of a point's value bins, bin after bin.
 use crate::fields::guard_true;
 use crate::marks::put_fixed;
-use crate::member::in_ranges;
 use crate::rising::put_values;
 use arrays::put_one;
+use ranges::member::in_ranges;
 use words::bytes::byte;
 use words::bytes::read2;
 ghost use mathlib.Core.Path.{_≡_};

@@ -4,7 +4,6 @@ pub mod bins;
 pub mod fields;
 pub mod flags;
 pub mod marks;
-pub mod member;
 pub mod points;
 pub mod rising;
 pub mod value;

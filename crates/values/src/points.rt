@@ -1,8 +1,8 @@
 // The flags of a point's value bins and auto bins.
 use crate::autos::put_auto;
-use crate::bins::excluded;
 use crate::bins::listed;
 use crate::flags::put_bins;
+use ranges::taken::excluded;
 use words::bytes::byte;
 use words::bytes::read2;
 ghost use mathlib.Core.Path.{_≡_};

@@ -1,57 +1,12 @@
-// Flags of a cover bin with one bin per value: the values of its spans, from the lowest up.
-use crate::fields::field;
+// Flags of a cover bin with one bin per value: the values of its ranges, from the lowest up.
 use arrays::put_one;
-use words::bytes::byte;
+use ranges::next::next_in;
 ghost use mathlib.Core.Path.{_≡_};
-ghost use Prim.Native.Nat.{_<_, _≤_, _+_, min, max};
+ghost use Prim.Native.Nat.{_<_, _≤_, _+_};
 ghost use lib.ListN.{length};
-ghost use Rattle.model.specs.Format.{rangeRecord};
 ghost use Rattle.model.specs.Raw.{rangesAt};
 ghost use Rattle.arrays.specs.Put.{put};
-ghost use Rattle.values.specs.Flags.{nextInSpan, nextSpan, valueFlags};
-
-fn least(a: u64, b: u64) -> u64
-    ensures { λ r. ⌜ r ≡ min a b ⌝ }
-{
-    if a < b { a } else { b }
-}
-
-fn most(a: u64, b: u64) -> u64
-    ensures { λ r. ⌜ r ≡ max a b ⌝ }
-{
-    if a < b { b } else { a }
-}
-
-// The least value from x up of the span at at; 2^33 if there is none.
-fn next_in(t: &[u8], at: usize, x: u64) -> u64
-    requires { ⌜ at < 4294967200 ⌝ }
-    ensures { λ r. ⌜ r ≡ nextInSpan (rangeRecord (now (t .entry)) at) x ⌝ }
-{
-    let kind = byte(t, at);
-    let lo = field(t, at + 1);
-    let hi = field(t, at + 9);
-    let y = most(lo, x);
-    if (kind == 0) & (x <= hi) {
-        y
-    } else {
-        8589934592
-    }
-}
-
-// The same of n spans from at on.
-fn next_at(t: &[u8], at: usize, n: usize, x: u64) -> u64
-    requires { ⌜ (at < 2000000000) × (n < 65536) ⌝ }
-    ensures { λ r. ⌜ r ≡ nextSpan (rangesAt (now (t .entry)) at n) x ⌝ }
-{
-    let mut best: u64 = 8589934592;
-    let mut i = 0;
-    while i < n {
-        let y = next_in(t, at + 17 * i, x);
-        best = least(best, y);
-        i += 1;
-    }
-    best
-}
+ghost use Rattle.values.specs.Flags.{valueFlags};
 
 // Form 1: a flag for each of the first 257 values from low up.
 pub fn put_values(
@@ -71,7 +26,7 @@ pub fn put_values(
     let mut x = low;
     let mut k: usize = 0;
     while k < 257 {
-        let y = next_at(t, at, n, x);
+        let y = next_in(t, at, n, x);
         if y >= 8589934592 {
             return c;
         }

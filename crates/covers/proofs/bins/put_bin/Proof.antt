@@ -1,7 +1,7 @@
 use mathlib.Core.Path.{ap}
 use native.Mathlib.Omega.{arith}
 use lib.ListN.{length, drop}
-use Rattle.left.specs.Left.{excludedAt}
+use Rattle.ranges.specs.Taken.{excludedAt}
 use Rattle.covers.proofs.BitLaws.{bits-unwritten, bits-as}
 use Rattle.covers.proofs.PartLaws.{own-other, own-kind, own-cover}
 use borrow.Author.Needs.{needs}

@@ -5,7 +5,7 @@ use native.Mathlib.Omega.{arith}
 use Rattle.model.specs.Lists.{all}
 use Rattle.model.specs.Format.{u16}
 use Rattle.model.specs.Raw.{binAt, binsAt}
-use Rattle.left.specs.Left.{excludedAt}
+use Rattle.ranges.specs.Taken.{excludedAt}
 use Rattle.covers.specs.Parts.{ownParts, partsIn, smallBin}
 use Rattle.covers.proofs.BitLaws.{Bits, bits-start, bits-room, bits-turns, bits-end}
 use Rattle.covers.proofs.PartLaws.{parts-start, parts-end, parts-turn, small-start, small-here, small-on}

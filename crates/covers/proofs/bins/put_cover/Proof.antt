@@ -4,7 +4,7 @@ use Prim.Native.Nat.{_+_}
 use native.Mathlib.Omega.{arith}
 use lib.ListN.{length, drop}
 use Rattle.model.specs.Raw.{rangesAt}
-use Rattle.left.specs.Left.{excludedAt}
+use Rattle.ranges.specs.Taken.{excludedAt}
 use Rattle.covers.specs.Parts.{valueParts, portionParts}
 use Rattle.covers.proofs.BitLaws.{bits-as}
 use Rattle.covers.proofs.FormLaws.{portion-length}

@@ -6,7 +6,7 @@ use Rattle.model.specs.Values.{highest}
 use Rattle.model.specs.Counters.{autoCount}
 use Rattle.model.specs.Format.{pointRecord}
 use Rattle.model.specs.Raw.{binsAt}
-use Rattle.left.specs.Left.{excludedAt}
+use Rattle.ranges.specs.Taken.{excludedAt}
 use Rattle.covers.specs.Parts.{partsIn, autoParts, pointParts}
 use Rattle.covers.proofs.BitLaws.{bits-two}
 use Rattle.covers.proofs.PartLaws.{point-parts, point-length, low-bound}

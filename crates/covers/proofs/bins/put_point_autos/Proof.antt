@@ -4,7 +4,7 @@ use Prim.Native.Nat.{_+_, _-_}
 use native.Mathlib.Omega.{arith}
 use lib.ListN.{length, drop}
 use Rattle.model.specs.Table.{span}
-use Rattle.left.specs.Left.{excludedAt}
+use Rattle.ranges.specs.Taken.{excludedAt}
 use Rattle.values.proofs.Laws.{not-true, not-false}
 use Rattle.covers.specs.Parts.{portionParts}
 use Rattle.covers.proofs.BitLaws.{bits-unwritten, bits-as}

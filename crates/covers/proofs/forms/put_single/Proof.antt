@@ -4,7 +4,7 @@ use Prim.Native.Nat.{ℕ}
 use native.Mathlib.Omega.{arith}
 use Rattle.model.specs.Raw.{rangesAt}
 use Rattle.arrays.specs.Put.{put}
-use Rattle.left.specs.Left.{excludedAt}
+use Rattle.ranges.specs.Taken.{excludedAt}
 use Rattle.covers.proofs.BitLaws.{bits-one}
 use borrow.Author.Needs.{needs}
 use Rattle.covers.proofs.forms.put_single.Statement.{statement}

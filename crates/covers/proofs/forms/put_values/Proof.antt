@@ -4,7 +4,7 @@ use mathlib.Core.List.{[], _∷_}
 use native.Mathlib.Omega.{arith}
 use borrow.Author.Needs.{needs}
 use Rattle.model.specs.Raw.{rangesAt}
-use Rattle.left.specs.Left.{excludedAt}
+use Rattle.ranges.specs.Taken.{excludedAt}
 use Rattle.covers.specs.Parts.{oneValue, valueParts}
 use Rattle.covers.proofs.BitLaws.{Bits, bits-start, bits-room, bits-turn, bits-end}
 use Rattle.covers.proofs.FormLaws.{value-turn, value-stop, value-end}

@@ -3,7 +3,8 @@ use mathlib.Core.Path.{_≡_}
 use borrow.Author.Needs.{needs}
 use Rattle.model.specs.Ranges.{cutRanges}
 use Rattle.model.specs.Raw.{rangesAt}
-use Rattle.left.specs.Left.{excludedAt, leftIn}
+use Rattle.ranges.specs.Taken.{excludedAt}
+use Rattle.left.specs.Left.{leftIn}
 use Rattle.left.proofs.CutLaws.{rowCuts, cuts-on}
 use Rattle.left.proofs.cuts.left_cuts.Statement.{statement}
 use Rattle.left.proofs.cuts.left_cuts.Tie as tie

@@ -1,4 +1,4 @@
-use Rattle.left.specs.Left.{excludedAt}
+use Rattle.ranges.specs.Taken.{excludedAt}
 use Rattle.left.proofs.PortionLaws.{auto-is}
 use borrow.Author.Needs.{needs}
 use Rattle.left.proofs.portions.left_auto.Statement.{statement}

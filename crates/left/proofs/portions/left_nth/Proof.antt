@@ -3,7 +3,8 @@ use mathlib.Core.List.{[], _∷_}
 use Prim.Native.Nat.{ℕ}
 use borrow.Author.Needs.{needs}
 use Rattle.model.specs.Table.{span}
-use Rattle.left.specs.Left.{excludedAt, leftIn}
+use Rattle.ranges.specs.Taken.{excludedAt}
+use Rattle.left.specs.Left.{leftIn}
 use Rattle.left.proofs.portions.left_nth.Statement.{statement}
 use Rattle.left.proofs.portions.left_nth.Tie as tie
 

@@ -1,6 +1,6 @@
 use borrow.Author.Needs.{needs}
 use Rattle.model.specs.Raw.{rangesAt}
-use Rattle.left.specs.Left.{excludedAt}
+use Rattle.ranges.specs.Taken.{excludedAt}
 use Rattle.left.proofs.PortionLaws.{portion-is}
 use Rattle.left.proofs.portions.left_portion.Statement.{statement}
 use Rattle.left.proofs.portions.left_portion.Tie as tie

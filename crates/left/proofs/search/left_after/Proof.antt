@@ -1,5 +1,6 @@
 use Rattle.model.specs.Format.{rangeRecord}
-use Rattle.left.specs.Left.{excludedAt, coversAt}
+use Rattle.ranges.specs.Taken.{excludedAt}
+use Rattle.left.specs.Left.{coversAt}
 use Rattle.left.proofs.LeftLaws.{after-is}
 use borrow.Author.Needs.{needs}
 use Rattle.left.proofs.search.left_after.Statement.{statement}

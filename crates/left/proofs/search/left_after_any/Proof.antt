@@ -3,9 +3,10 @@ use mathlib.Core.Path.{_≡_, _∙_}
 use borrow.Author.Needs.{needs}
 use Rattle.model.specs.Lists.{any}
 use Rattle.model.specs.Raw.{binsAt}
-use Rattle.left.specs.Left.{takenBy, excludedAt, coversAt, leftAfter}
-use Rattle.left.proofs.Extra.{anys, bins-any-start, bins-any-on}
-use Rattle.left.proofs.TakenLaws.{any-taken}
+use Rattle.ranges.specs.Taken.{takenBy, excludedAt}
+use Rattle.left.specs.Left.{coversAt, leftAfter}
+use Rattle.ranges.proofs.Searches.{anys, bins-any-start, bins-any-on}
+use Rattle.ranges.proofs.TakenLaws.{any-taken}
 use Rattle.left.proofs.search.left_after_any.Statement.{statement}
 use Rattle.left.proofs.search.left_after_any.Tie as tie
 

@@ -1,4 +1,4 @@
-use Rattle.left.proofs.TakenLaws.{takens}
+use Rattle.ranges.proofs.TakenLaws.{takens}
 use borrow.Author.Needs.{needs}
 use Rattle.left.proofs.search.left_after_bin.Statement.{statement}
 use Rattle.left.proofs.search.left_after_bin.Tie as tie

@@ -3,8 +3,9 @@ use mathlib.Core.Path.{_≡_}
 use borrow.Author.Needs.{needs}
 use Rattle.model.specs.Lists.{any}
 use Rattle.model.specs.Raw.{rangesAt}
-use Rattle.left.specs.Left.{excludedAt, coversAt, leftAfter}
-use Rattle.left.proofs.Extra.{anys}
+use Rattle.ranges.specs.Taken.{excludedAt}
+use Rattle.left.specs.Left.{coversAt, leftAfter}
+use Rattle.ranges.proofs.Searches.{anys}
 use Rattle.left.proofs.search.left_afters.Statement.{statement}
 use Rattle.left.proofs.search.left_afters.Tie as tie
 

@@ -3,7 +3,7 @@ use mathlib.Core.Path.{ap, _∙_}
 use lib.ListN.{length}
 use Rattle.model.specs.Ranges.{ascending}
 use Rattle.model.specs.Raw.{rangesAt}
-use Rattle.limits.proofs.SpanLaws.{low-is}
+use Rattle.ranges.proofs.RangeLaws.{low-record}
 use borrow.Author.Needs.{needs}
 use Rattle.limits.proofs.values.per_value.Statement.{statement}
 use Rattle.limits.proofs.values.per_value.Tie as tie
@@ -26,7 +26,7 @@ value-count-requires c κs = search needs
 returns : tie.Need-returns
 returns c =
     let a = c .before .before .before .before .before .args in
-    let low = low-is (a .t .now) (a .point) _ _ (c .before .lowest .result) (c .before .before .before .byte .ensures) (c .before .before .byte2 .ensures) (c .before .lowest .ensures .0) in
+    let low = low-record (a .t .now) (a .point) _ _ (c .before .lowest .result) (c .before .before .before .byte .ensures) (c .before .before .byte2 .ensures) (c .before .lowest .ensures .0) in
     (c .value-count .ensures .0 ∙ ap (λ (x : ℕ). length (ascending 257 (rangesAt (a .t .now) (a .start) (a .n)) x)) low, search needs)
 
 pub per-value-spec : {M : Type 1} → statement M

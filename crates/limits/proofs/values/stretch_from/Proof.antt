@@ -5,7 +5,7 @@ use Rattle.model.specs.Lists.{all}
 use Rattle.model.specs.Format.{rangeRecord}
 use Rattle.model.specs.Raw.{rangesAt}
 use Rattle.limits.specs.Bins.{isSpan}
-use Rattle.limits.proofs.Extra.{all-start, rows-first, rows-others}
+use Rattle.limits.proofs.RowLaws.{all-start, rows-first, rows-others}
 use Rattle.limits.proofs.SpanLaws.{Nearest, nearest-start, nearest-on, nearest-done}
 use borrow.Author.Needs.{needs}
 use Rattle.limits.proofs.values.stretch_from.Statement.{statement}

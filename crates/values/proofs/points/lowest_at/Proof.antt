@@ -1,4 +1,4 @@
-use Rattle.values.proofs.PointLaws.{low-from}
+use Rattle.ranges.proofs.RangeLaws.{low-record}
 use borrow.Author.Needs.{needs}
 use Rattle.values.proofs.points.lowest_at.Statement.{statement}
 use Rattle.values.proofs.points.lowest_at.Tie as tie
@@ -18,7 +18,7 @@ lowest-requires c κs = search needs
 returns : tie.Need-returns
 returns c =
     let a = c .before .before .before .before .args in
-    low-from (a .t .now) (a .point) (c .before .before .byte .result) (c .before .byte2 .result) (c .lowest .result) (c .before .before .byte .ensures) (c .before .byte2 .ensures) (c .lowest .ensures .0)
+    low-record (a .t .now) (a .point) (c .before .before .byte .result) (c .before .byte2 .result) (c .lowest .result) (c .before .before .byte .ensures) (c .before .byte2 .ensures) (c .lowest .ensures .0)
 
 pub lowest-at-spec : {M : Type 1} → statement M
 lowest-at-spec =

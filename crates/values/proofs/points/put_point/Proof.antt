@@ -1,4 +1,5 @@
 use native.Mathlib.Omega.{arith}
+use Rattle.values.specs.Flags.{excludedIn}
 use Rattle.values.proofs.PointLaws.{point-parts, point-length, both-written}
 use borrow.Author.Needs.{needs}
 use Rattle.values.proofs.points.put_point.Statement.{statement}
@@ -17,6 +18,7 @@ lowest-at-requires : tie.Need-lowest-at-requires
 lowest-at-requires c κs = search needs
 
 put-bins-requires : tie.Need-put-bins-requires
+unfolding excludedIn
 put-bins-requires c κs =
     let a = c .before .before .before .before .before .before .before .before .args in
     let p = c .before .before .before .before .before .before .before .before .pre in
@@ -25,6 +27,7 @@ put-bins-requires c κs =
     ((q .bins-near, q .ranges-near, q .few-bins, p .1 .0, p .0 .3), omega (arith, long, p .1 .3))
 
 put-autos-requires : tie.Need-put-autos-requires
+unfolding excludedIn
 put-autos-requires c κs =
     let a = c .before .before .before .before .before .before .before .before .before .before .before .before .args in
     let p = c .before .before .before .before .before .before .before .before .before .before .before .before .pre in
@@ -36,6 +39,7 @@ same-length : tie.Need-same-length
 same-length c = search needs
 
 returns : tie.Need-returns
+unfolding excludedIn
 returns c =
     let a = c .before .before .before .before .before .before .before .before .before .before .before .before .before .before .before .args in
     let q = c .before .before .before .before .before .before .put-bins in

@@ -1,5 +1,5 @@
-use mathlib.Core.Path.{_≡_, refl, sym, ap, _∙_}
-use Prim.Native.Nat.{_+_, _-_, _*_, _^_, _≤_, min}
+use mathlib.Core.Path.{_≡_, refl, ap, _∙_}
+use Prim.Native.Nat.{_+_, _-_, _≤_}
 use native.Mathlib.Omega.{arith}
 use lib.ListN.{length}
 use Rattle.model.specs.Raw.{rangesAt}
@@ -21,8 +21,8 @@ abbrev μ-loop : tie.MeasureT-loop
 loop-holds : tie.Need-loop-holds Inv-loop μ-loop
 loop-holds c = (omega arith, refl, refl, refl)
 
-next-at-requires : tie.Need-next-at-requires Inv-loop μ-loop
-next-at-requires c κs = omega arith
+next-in-requires : tie.Need-next-in-requires Inv-loop μ-loop
+next-in-requires c κs = omega arith
 
 same-length : tie.Need-same-length Inv-loop μ-loop
 same-length c = c .before .before .before .loop .inv .1
@@ -31,16 +31,16 @@ returns : tie.Need-returns Inv-loop μ-loop
 returns c =
     let a = c .before .before .before .before .before .before .args in
     let l = c .before .before .before .loop in
-    let y = c .before .next-at in
-    let z = value-stop (a .live) (a .v) (rangesAt (a .t .now) (a .at) (a .n)) 257 (l .k) (l .x) (y .result) (omega arith) (y .ensures) (omega arith) in
+    let y = c .before .next-in in
+    let z = value-stop (a .live) (a .v) (rangesAt (a .t .now) (a .at) (a .n)) 257 (l .k) (l .x) (y .result) (omega arith) (y .ensures .0) (omega arith) in
     write-end (l .c) (a .cur) _ _ (l .flags) (a .flags .now) z (l .inv .2) (l .inv .3)
 
 put-one-requires : tie.Need-put-one-requires Inv-loop μ-loop
 put-one-requires c κs =
     let a = c .before .before .before .before .before .before .before .args in
     let l = c .before .before .before .before .loop in
-    let y = c .before .before .next-at in
-    let z = value-turn (a .live) (a .v) (rangesAt (a .t .now) (a .at) (a .n)) 257 (l .k) (l .x) (y .result) (omega arith) (y .ensures) (omega arith) in
+    let y = c .before .before .next-in in
+    let z = value-turn (a .live) (a .v) (rangesAt (a .t .now) (a .at) (a .n)) 257 (l .k) (l .x) (y .result) (omega arith) (y .ensures .0) (omega arith) in
     omega (arith, ap length z)
 
 add-x : tie.Need-add-x Inv-loop μ-loop
@@ -56,9 +56,9 @@ loop-again : tie.Need-loop-again Inv-loop μ-loop
 loop-again c =
     let a = c .before .before .before .before .before .before .before .before .before .before .args in
     let l = c .before .before .before .before .before .before .before .loop in
-    let y = c .before .before .before .before .before .next-at in
+    let y = c .before .before .before .before .before .next-in in
     let q = c .before .before .put-one in
-    let z = value-turn (a .live) (a .v) (rangesAt (a .t .now) (a .at) (a .n)) 257 (l .k) (l .x) (y .result) (omega arith) (y .ensures) (omega arith) in
+    let z = value-turn (a .live) (a .v) (rangesAt (a .t .now) (a .at) (a .n)) 257 (l .k) (l .x) (y .result) (omega arith) (y .ensures .0) (omega arith) in
     let w = write-one (l .c) (q .result) _ _ _ (l .flags) (q .last .0) z (omega arith) (q .ensures .0) (q .ensures .1) in
     (omega arith, q .kept .0 ∙ l .inv .1, w .0 ∙ l .inv .2, w .1 ∙ l .inv .3)
 
@@ -79,7 +79,7 @@ put-values-spec =
     Inv-loop
     μ-loop
     loop-holds
-    next-at-requires
+    next-in-requires
     same-length
     returns
     put-one-requires
