@@ -2,20 +2,20 @@
 -- Assumes nothing.
 use mathlib.Core.Path.{_≡_, refl, sym, ap, ap₂, _∙_}
 use mathlib.Core.Bool.{Bool, true, false, _||_, cond}
-use mathlib.Core.List.{List, [], _∷_, _++_, append-nil}
-use Prim.Native.Nat.{ℕ, zero, suc, _+_, _-_, _≤_, _<_, min, max}
+use mathlib.Core.List.{List, [], _∷_}
+use Prim.Native.Nat.{ℕ, suc, _+_, _-_, _≤_, _<_, min}
 use native.Mathlib.Nat.{sub-zero}
 use native.Mathlib.Omega.{arith}
-use lib.Dec.{ltb, eqb}
+use lib.Dec.{ltb}
 use borrow.Author.Needs.{needs}
 use borrow.Author.Tests.{eq-eqb, ne-eqb, lt-ltb, le-ltb, ltb-true}
 use Rattle.model.specs.Lists.{all}
 use Rattle.model.specs.Table.{Range, span, pattern}
 use Rattle.model.specs.Values.{fieldValue}
 use Rattle.model.specs.Format.{byte, u64, rangeRecord}
-use Rattle.model.specs.Ranges.{noValue, size, cutRange, cutRanges}
+use Rattle.model.specs.Ranges.{size, cutRange, cutRanges}
 use Rattle.model.specs.Raw.{rows, rangesAt}
-use Rattle.model.proofs.Booleans.{false-true, and-left, and-right}
+use Rattle.model.proofs.Booleans.{false-true}
 use Rattle.model.proofs.Readers.{All, all-append}
 use Rattle.model.proofs.NextValue.{IsSpan}
 use Rattle.words.proofs.Laws.{none-left, one-left}
@@ -68,19 +68,7 @@ module _ (s : List ℕ) (at k a b : ℕ) (ek : k ≡ byte s at) (ea : a ≡ u64 
     unfolding at-cut
     cut-pattern z = left-empty [] E lo hi refl ∙ ap at-cut (sym (ne-eqb (byte s at) 0 (λ e. z (ek ∙ e))))
 
-  at-size : Bool → ℕ
-  at-size c = min (size (cond c (span (fieldValue (u64 s (at + 1))) (fieldValue (u64 s (at + 9)))) (pattern (u64 s (at + 1)) (u64 s (at + 9))))) 1152921504606846976
-
-  pub size-span : (x y r : ℕ) → k ≡ 0 → x ≡ valueAt a → y ≡ valueAt b → r ≡ min (suc y - x) 1152921504606846976 → r ≡ min (size (rangeRecord s at)) 1152921504606846976
-  unfolding valueAt at-size
-  size-span x y r z ex ey h =
-      h ∙ ap₂ (λ (x y : ℕ). min (suc y - x) 1152921504606846976) (ex ∙ ap fieldValue ea) (ey ∙ ap fieldValue eb) ∙ ap at-size (sym (eq-eqb (byte s at) 0 (sym ek ∙ z)))
-
-  pub size-pattern : (k ≡ 0 → ⊥) → 0 ≡ min (size (rangeRecord s at)) 1152921504606846976
-  unfolding at-size
-  size-pattern z = ap at-size (sym (ne-eqb (byte s at) 0 (λ e. z (ek ∙ e))))
-
-pub ruleset cuts = (needs, cut-none, cut-some, cut-past, cut-span, cut-pattern, size-span, size-pattern)
+pub ruleset cuts = (needs, cut-none, cut-some, cut-past, cut-span, cut-pattern)
 
 -- ---- listed ranges in a row
 

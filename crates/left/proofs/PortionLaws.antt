@@ -1,9 +1,9 @@
--- The j-th value of some ranges; how many values some ranges list; the positions of the j-th of several bins.
+-- The j-th value of some ranges; the positions of the j-th of several bins.
 -- Assumes nothing.
 use mathlib.Core.Path.{_≡_, refl, sym, ap, ap₂, _∙_}
 use mathlib.Core.Bool.{Bool, true, false, cond}
-use mathlib.Core.List.{List, [], _∷_, _++_, append-nil}
-use Prim.Native.Nat.{ℕ, zero, suc, _+_, _-_, _*_, _/_, _≤_, _<_, min, max}
+use mathlib.Core.List.{List, [], _∷_, append-nil}
+use Prim.Native.Nat.{ℕ, suc, _+_, _-_, _*_, _/_, _≤_, _<_, min, max}
 use native.Mathlib.Nat.{sub-zero}
 use native.Mathlib.Omega.{arith}
 use lib.Dec.{ltb, eqb}
@@ -12,9 +12,7 @@ use borrow.Author.Needs.{needs}
 use borrow.Author.Tests.{eq-eqb, ne-eqb, lt-ltb, le-ltb, ltb-false}
 use Rattle.model.specs.Lists.{sumOf}
 use Rattle.model.specs.Table.{Range, span}
-use Rattle.model.specs.Format.{rangeRecord}
-use Rattle.model.specs.Ranges.{noValue, nextIn, ascending, size, sizes, cutRange, cutRanges, portionRanges}
-use Rattle.model.specs.Raw.{rows, rangesAt}
+use Rattle.model.specs.Ranges.{noValue, nextIn, ascending, sizes, cutRange, cutRanges, portionRanges}
 use Rattle.words.proofs.Laws.{none-left, one-left}
 use Rattle.left.specs.Left.{leftIn, nthOf}
 
@@ -53,27 +51,6 @@ module _ (rs : List Range) (j : ℕ) where
         ∙ ap (λ (a : ℕ). getD (ascending (257 - (i + 1)) rs a) (j - (i + 1)) noValue) (let z : suc (nextIn rs x) ≡ v + 1 = omega arith in z)
 
 pub ruleset nths = (needs, nth-start, nth-done, nth-none, nth-on)
-
--- ---- how many values
-
-module _ (s : List ℕ) (n : ℕ) where
-  pub sizes-start : (at : ℕ) → sizes (rangesAt s at n) ≡ 0 + sizes (rangesAt s at (n - 0))
-  sizes-start at = (let z : sizes (rangesAt s at n) ≡ 0 + sizes (rangesAt s at n) = omega arith in rw sub-zero z)
-
-  module _ (at i whole sum : ℕ) (inv : whole ≡ sum + sizes (rangesAt s at (n - i))) where
-    pub sizes-done : n ≤ i → sum ≡ whole
-    unfolding sizes sumOf rows
-    sizes-done h = let y : whole ≡ sum + 0 = rw (none-left n i h) at inv in omega arith
-
-    sizes-step : i < n → whole ≡ sum + (size (rangeRecord s at) + sizes (rangesAt s (at + 17) (n - (i + 1))))
-    unfolding sizes sumOf rows
-    sizes-step h = inv ∙ ap (λ (m : ℕ). sum + sizes (rangesAt s at m)) (one-left n i h)
-
-    pub sizes-room : (m : ℕ) → i < n → whole ≤ 17592186044416 → m ≡ min (size (rangeRecord s at)) 1152921504606846976 → sum + m ≤ 17592186044416
-    sizes-room m h g e = omega (arith, sizes-step h)
-
-    pub sizes-on : (m : ℕ) → i < n → whole ≤ 17592186044416 → m ≡ min (size (rangeRecord s at)) 1152921504606846976 → whole ≡ sum + m + sizes (rangesAt s (at + 17) (n - (i + 1)))
-    sizes-on m h g e = omega (arith, sizes-step h)
 
 -- ---- positions
 

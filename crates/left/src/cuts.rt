@@ -3,12 +3,14 @@
 use crate::search::left_part;
 use ranges::next::least;
 use ranges::next::less;
+use ranges::sizes::size_at;
+use ranges::sizes::span_size;
 use ranges::value_at;
 use words::bytes::byte;
 use words::bytes::read8;
 ghost use mathlib.Core.Path.{_≡_};
 ghost use mathlib.Core.Bool.{true};
-ghost use Prim.Native.Nat.{suc, _-_, _≤_, min};
+ghost use Prim.Native.Nat.{_-_, _≤_};
 ghost use Rattle.model.specs.Lists.{all};
 ghost use Rattle.model.specs.Table.{span};
 ghost use Rattle.model.specs.Format.{rangeRecord};
@@ -16,30 +18,6 @@ ghost use Rattle.model.specs.Ranges.{size, cutRange, cutRanges};
 ghost use Rattle.model.specs.Raw.{rangesAt};
 ghost use Rattle.ranges.specs.Taken.{excludedAt};
 ghost use Rattle.left.specs.Left.{leftIn, isSpan, Placed};
-
-// How many values a span has; no more than 2^60.
-pub fn span_size(a: u64, b: u64) -> u64
-    ensures { λ r. ⌜ r ≡ min (suc b - a) 1152921504606846976 ⌝ }
-{
-    if b < a {
-        0
-    } else {
-        least(b - a, 1152921504606846975) + 1
-    }
-}
-
-pub fn size_at(t: &[u8], at: usize) -> u64
-    requires { ⌜ at ≤ 2000000000 ⌝ }
-    ensures { λ r. ⌜ r ≡ min (size (rangeRecord (now (t .entry)) at)) 1152921504606846976 ⌝ }
-{
-    let kind = byte(t, at);
-    let a = read8(t, at + 1);
-    let b = read8(t, at + 9);
-    if kind == 0 {
-        return span_size(value_at(a), value_at(b));
-    }
-    0
-}
 
 // The span from a to b.
 pub fn left_cut_span(

@@ -1,20 +1,19 @@
 // The bins of a value bin that stands for several, and auto bins: whether a value of the j-th is left from lo to hi.
 use crate::cuts::left_cut_span;
 use crate::cuts::left_cuts;
-use crate::cuts::size_at;
-use crate::cuts::span_size;
 use crate::search::left_value;
 use ranges::next::larger;
 use ranges::next::next_in;
+use ranges::sizes::sizes_at;
+use ranges::sizes::span_size;
 ghost use mathlib.Core.Path.{_≡_};
 ghost use mathlib.Core.Bool.{true, cond};
 ghost use mathlib.Core.List.{[], _∷_};
 ghost use Prim.Native.Nat.{suc, _*_, _/_, _≤_, max};
 ghost use lib.Dec.{eqb};
-ghost use lib.ListN.{getD};
 ghost use Rattle.model.specs.Lists.{all};
 ghost use Rattle.model.specs.Table.{span};
-ghost use Rattle.model.specs.Ranges.{ascending, sizes, portionRanges};
+ghost use Rattle.model.specs.Ranges.{sizes, portionRanges};
 ghost use Rattle.model.specs.Raw.{rangesAt};
 ghost use Rattle.ranges.specs.Taken.{excludedAt};
 ghost use Rattle.left.specs.Left.{leftIn, isSpan, Placed, nthOf};
@@ -60,22 +59,6 @@ pub fn left_nth(
 }
 
 // ---- a fixed number of bins, and auto bins
-
-// How many values k ranges from cover on list, repeats kept. Spans only count.
-pub fn sizes_at(t: &[u8], cover: usize, k: usize) -> u64
-    requires { ⌜ (cover ≤ 1000000000) × (k ≤ 65535) × (sizes (rangesAt (now t) cover k) ≤ 17592186044416) ⌝ }
-    ensures { λ r. ⌜ r ≡ sizes (rangesAt (now (t .entry)) cover k) ⌝ }
-{
-    let mut sum: u64 = 0;
-    let mut at = cover;
-    let mut i = 0;
-    while i < k {
-        sum += size_at(t, at);
-        at += 17;
-        i += 1;
-    }
-    sum
-}
 
 fn product(a: u64, b: u64) -> u64
     requires { ⌜ (a ≤ 65536) × (b ≤ 17592186044416) ⌝ }

@@ -3,3 +3,4 @@ pub mod Searches
 pub mod NextLaws
 pub mod MemberLaws
 pub mod TakenLaws
+pub mod SizeLaws

@@ -1,6 +1,7 @@
-// Ranges of the table's bytes: the tests on a record's i64 fields in a point's type; below, membership, the next value, and what ignore and illegal bins take.
+// Ranges of the table's bytes: the tests on a record's i64 fields in a point's type; below, membership, the next value, how many values there are, and what ignore and illegal bins take.
 pub mod member;
 pub mod next;
+pub mod sizes;
 pub mod taken;
 
 use words::bytes::byte;

@@ -17,6 +17,7 @@ use Rattle.model.specs.Counters.{listed, auto, Counter, valueBin, pointAt, valu
 use Rattle.model.specs.Sampling.{Reading, known, guardTrue, reading, isIn, Stretches, coverHit, hits}
 use Rattle.model.proofs.Readers.{All}
 use Rattle.model.proofs.Runs.{any-cong}
+pub use Rattle.model.proofs.AccessTransitions.{map-twice as map-map}
 use Rattle.model.proofs.WellFormed.{GoodPoint, GoodBin, WellFormed}
 use Rattle.model.proofs.Exact.{Divisible, first-exact, portion-exact, auto-exact}
 use Rattle.model.proofs.TableExact.{point-at, divisible}
@@ -32,10 +33,6 @@ use Rattle.values.proofs.Dealt.{portion-bins}
 pub map-append : {A B : Type 0} (f : A → B) (xs ys : List A) → map f (xs ++ ys) ≡ map f xs ++ map f ys
 map-append f [] ys = refl
 map-append f (x ∷ xs) ys = ap (f x ∷_) (map-append f xs ys)
-
-pub map-map : {A B C : Type 0} (f : B → C) (g : A → B) (h : A → C) → ((a : A) → f (g a) ≡ h a) → (xs : List A) → map f (map g xs) ≡ map h xs
-map-map f g h e [] = refl
-map-map f g h e (x ∷ xs) = ap₂ _∷_ (e x) (map-map f g h e xs)
 
 regroup : (a b c : Bool) → (a && (b && not c)) ≡ ((a && not c) && b)
 regroup true true true = refl

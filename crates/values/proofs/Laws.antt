@@ -73,21 +73,6 @@ abbrev hi : List ℕ → ℕ → ℕ
 hi s at = fieldValue (u64 s (at + 9))
 
 module _ (s : List ℕ) (at : ℕ) where
-  pub size-pattern : (k : ℕ) → k ≡ byte s at → (k ≡ 0 → ⊥) → 0 ≡ size (rangeRecord s at)
-  size-pattern k e z = rw (ne-eqb (byte s at) 0 (λ h. z (e ∙ h)))
-
-  pub span-size : (k x y : ℕ) → k ≡ byte s at → k ≡ 0 → x ≡ lo s at → y ≡ hi s at → suc y - x ≡ size (rangeRecord s at)
-  span-size k x y e z p q = rw (eq-eqb (byte s at) 0 (sym e ∙ z), p, q)
-
-  pub size-none : (k x y : ℕ) → k ≡ byte s at → k ≡ 0 → x ≡ lo s at → y ≡ hi s at → y < x → 0 ≡ size (rangeRecord s at)
-  size-none k x y e z p q h = (let n : 0 ≡ suc y - x = omega arith in n) ∙ span-size k x y e z p q
-
-  pub size-some : (k x y : ℕ) → k ≡ byte s at → k ≡ 0 → x ≡ lo s at → y ≡ hi s at → x ≤ y → y - x + 1 ≡ size (rangeRecord s at)
-  size-some k x y e z p q h = (let n : y - x + 1 ≡ suc y - x = omega arith in n) ∙ span-size k x y e z p q
-
-  pub size-fits : (k x y : ℕ) → k ≡ byte s at → k ≡ 0 → x ≡ lo s at → y ≡ hi s at → x ≤ y → size (rangeRecord s at) < 2 ^ 60 → y - x + 1 < 2 ^ 64
-  size-fits k x y e z p q h b = omega (arith, size-some k x y e z p q h)
-
   pub in-span : (v k x y : ℕ) → k ≡ byte s at → x ≡ lo s at → y ≡ hi s at → (eqb k 0 && leb x v && leb v y) ≡ inSpan (rangeRecord s at) v
   in-span v k x y e p q = rw (e, p, q) (go (eqb (byte s at) 0))
     where
@@ -104,7 +89,7 @@ module _ (s : List ℕ) (at : ℕ) where
       go true e = (leb-true (lo s at) v (and-left (leb (lo s at) v) (leb v (hi s at)) e), refl)
       go false e = absurd (false-true e)
 
-pub ruleset spans = (needs, size-pattern, size-none, size-some, size-fits, in-span)
+pub ruleset spans = (needs, in-span)
 
 -- ---- the sizes of ranges in a row
 

@@ -1,48 +1,18 @@
 // Flags of a cover bin that stands for several bins.
 use crate::fields::field;
 use arrays::put_same;
+use ranges::sizes::size_at;
+use ranges::sizes::sizes_at;
 use words::bytes::byte;
 ghost use mathlib.Core.Path.{_≡_};
 ghost use mathlib.Core.Bool.{true};
-ghost use mathlib.Core.List.{[], _∷_};
 ghost use Prim.Native.Nat.{_<_, _≤_, _+_, _^_, _/_, min, max};
-ghost use lib.ListN.{length, replicate};
-ghost use Rattle.model.specs.Lists.{asBit};
+ghost use lib.ListN.{length};
 ghost use Rattle.model.specs.Format.{rangeRecord};
-ghost use Rattle.model.specs.Ranges.{size, sizes};
+ghost use Rattle.model.specs.Ranges.{sizes};
 ghost use Rattle.arrays.specs.Put.{put};
 ghost use Rattle.model.specs.Raw.{rangesAt};
 ghost use Rattle.values.specs.Flags.{inSpan, placeIn, binsOf, setAll, markOne, fixedFlags};
-
-// How many values the range at at has, if it is a span.
-fn size_at(t: &[u8], at: usize) -> u64
-    requires { ⌜ (at < 4294967200) × (size (rangeRecord (now t) at) < 2 ^ 60) ⌝ }
-    ensures { λ r. ⌜ r ≡ size (rangeRecord (now (t .entry)) at) ⌝ }
-{
-    let kind = byte(t, at);
-    let lo = field(t, at + 1);
-    let hi = field(t, at + 9);
-    if kind != 0 {
-        return 0;
-    }
-    if hi < lo {
-        return 0;
-    }
-    hi - lo + 1
-}
-
-fn sizes_at(t: &[u8], at: usize, n: usize) -> u64
-    requires { ⌜ (at < 2000000000) × (n < 65536) × (sizes (rangesAt (now t) at n) < 2 ^ 60) ⌝ }
-    ensures { λ r. ⌜ r ≡ sizes (rangesAt (now (t .entry)) at n) ⌝ }
-{
-    let mut sum: u64 = 0;
-    let mut i = 0;
-    while i < n {
-        sum += size_at(t, at + 17 * i);
-        i += 1;
-    }
-    sum
-}
 
 fn in_span(t: &[u8], at: usize, v: u64) -> bool
     requires { ⌜ at < 4294967200 ⌝ }

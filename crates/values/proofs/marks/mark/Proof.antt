@@ -35,10 +35,7 @@ mark-one-requires : tie.Need-mark-one-requires Inv-loop μ-loop
 mark-one-requires c κs = omega arith
 
 size-at-requires : tie.Need-size-at-requires Inv-loop μ-loop
-size-at-requires c κs =
-    let a = c .before .before .before .before .before .before .before .before .args in
-    let l = c .before .before .before .before .before .loop in
-    (omega arith, omega (arith, sizes-step (a .t .now) (a .at) (a .n) (l .i) (omega arith)))
+size-at-requires c κs = omega arith
 
 add-before : tie.Need-add-before Inv-loop μ-loop
 add-before c =
@@ -56,11 +53,12 @@ loop-again : tie.Need-loop-again Inv-loop μ-loop
 loop-again c =
     let a = c .before .before .before .before .before .before .before .before .before .args in
     let l = c .before .before .before .before .before .before .loop in
-    let m = c .before .before .before .mark-one in (
+    let m = c .before .before .before .mark-one in
+    let small = sizes-step (a .t .now) (a .at) (a .n) (l .i) (omega arith) in (
       omega arith,
       search needs,
-      omega (arith, c .size-at .ensures, sizes-step (a .t .now) (a .at) (a .n) (l .i) (omega arith)),
-      mark-turn (a .t .now) (a .at) (a .n) (l .i) (a .cur) (a .each) (a .last) (a .v) (l .before) (c .size-at .result) (l .flags) (m .last .1 .1 .1 .1 .1 .1 .0) (omega arith) (c .size-at .ensures) (m .ensures) ∙ l .inv .3,
+      omega (arith, c .size-at .ensures, small),
+      mark-turn (a .t .now) (a .at) (a .n) (l .i) (a .cur) (a .each) (a .last) (a .v) (l .before) (c .size-at .result) (l .flags) (m .last .1 .1 .1 .1 .1 .1 .0) (omega arith) (omega (arith, c .size-at .ensures, small)) (m .ensures) ∙ l .inv .3,
     )
 
 same-length : tie.Need-same-length Inv-loop μ-loop

@@ -1,7 +1,7 @@
-use Rattle.left.proofs.CutLaws.{cuts}
+use Rattle.ranges.proofs.SizeLaws.{rangeSize}
 use borrow.Author.Needs.{needs}
-use Rattle.left.proofs.cuts.size_at.Statement.{statement}
-use Rattle.left.proofs.cuts.size_at.Tie as tie
+use Rattle.ranges.proofs.sizes.size_at.Statement.{statement}
+use Rattle.ranges.proofs.sizes.size_at.Tie as tie
 
 byte-requires : tie.Need-byte-requires
 byte-requires c κs = search needs
@@ -28,10 +28,10 @@ span-size-requires : tie.Need-span-size-requires
 span-size-requires c κs = search needs
 
 returns : tie.Need-returns
-returns c = search cuts
+returns c = search rangeSize
 
 returns-2 : tie.Need-returns-2
-returns-2 c = search cuts
+returns-2 c = search rangeSize
 
 pub size-at-spec : {M : Type 1} → statement M
 size-at-spec =
