@@ -1,32 +1,28 @@
 -- The bins of a value bin by its form, kind and point, and those of a point.
 -- Assumes nothing.
-use mathlib.Core.Path.{_≡_, refl, sym, ap, ap₂, _∙_}
+use mathlib.Core.Path.{_≡_, sym, ap, ap₂, _∙_}
 use mathlib.Core.Bool.{Bool, true, false, _&&_, cond, and-false}
 use mathlib.Core.List.{List, [], _∷_, _++_}
-use Prim.Native.Nat.{ℕ, zero, suc, _+_, _-_, _*_, _^_, _≤_, _<_, min}
+use Prim.Native.Nat.{ℕ, _+_, _-_, _*_, _^_, _≤_, _<_, min}
 use native.Mathlib.Omega.{arith}
 use lib.Dec.{leb, eqb}
 use lib.ListN.{length, length-append}
 use borrow.Author.Tests.{eq-eqb, ne-eqb, leb-true}
 use Rattle.model.specs.Lists.{all}
-use Rattle.model.specs.Table.{Point, Form, fixed, Range, span, isCover}
+use Rattle.model.specs.Table.{Point, Form, Range, span, isCover}
 use Rattle.model.specs.Values.{lowest, highest}
 use Rattle.model.specs.Counters.{autoCount}
 use Rattle.model.specs.Format.{byte, u16, formFrom, kindFrom, pointRecord}
 use Rattle.model.specs.Ranges.{sizes}
 use Rattle.model.specs.Raw.{binAt, binsAt, rangesAt}
 use Rattle.model.proofs.Booleans.{and-left, and-right}
-use Rattle.words.proofs.Laws.{none-left, one-left}
+use Rattle.model.proofs.Lists.{none-left, one-left}
+use Rattle.model.proofs.Fields.{fixed-form, cover-kind}
 use Rattle.ranges.specs.Types.{powerOf}
 use Rattle.values.specs.Points.{hasAutoAt}
 use Rattle.covers.specs.Parts.{valueParts, portionParts, parts, ownParts, partsIn, autoParts, pointParts, smallBin}
 
 -- ---- by form
-
-fixed-form : (form number : ℕ) → (form ≡ 0 → ⊥) → (form ≡ 1 → ⊥) → formFrom form number ≡ fixed number
-fixed-form zero number z o = absurd (z refl)
-fixed-form (suc zero) number z o = absurd (o refl)
-fixed-form (suc (suc n)) number z o = refl
 
 module _ (s : List ℕ) (b r low form number k : ℕ) (ef : form ≡ byte s (b + 2)) (en : number ≡ u16 s (b + 3)) (ek : k ≡ u16 s (b + 6)) where
   by-form : parts low (binAt s b r .form) (binAt s b r .ranges) ≡ parts low (formFrom form number) (rangesAt s r k)
@@ -48,12 +44,6 @@ pub small-sizes : (s : List ℕ) (b r k : ℕ) → k ≡ u16 s (b + 6) → small
 small-sizes s b r k e h = leb-true (sizes (rangesAt s r k)) 17592186044416 (ap (λ (m : ℕ). leb (sizes (rangesAt s r m)) 17592186044416) e ∙ h)
 
 -- ---- by point and kind
-
-cover-kind : (k : ℕ) → isCover (kindFrom k) ≡ eqb k 0
-cover-kind zero = refl
-cover-kind (suc zero) = refl
-cover-kind (suc (suc zero)) = refl
-cover-kind (suc (suc (suc k))) = sym (ne-eqb (suc (suc (suc k))) 0 (λ e. omega arith))
 
 module _ (s : List ℕ) (b r low p q : ℕ) (eq : q ≡ byte s b) where
   mine : Bool → List (List Range)

@@ -11,7 +11,7 @@ use borrow.Author.Tests.{ne-eqb, eqb-true, lt-ltb}
 use Rattle.model.specs.Lists.{all, sumOf}
 use Rattle.model.specs.Table.{Kind, cover, ignore, illegal, default, Point, Range, span, pattern, Form, single, perValue, fixed, ValueBin, TransitionBin, Table, isCover, isDefault, noPoint}
 use Rattle.model.specs.Counters.{pointAt, hasAuto, autoCount}
-use Rattle.model.specs.Format.{byte, u16, kindFrom, pointRecord}
+use Rattle.model.specs.Format.{byte, kindFrom, pointRecord}
 use Rattle.model.specs.Ranges.{rangeCount, coversOf, countersOf, transitionsOf, valueTotal, autoTotal, transitionTotal, countersAt, coversAt}
 use Rattle.model.specs.Raw.{rows, recordsPlace, recordCount, binsAt, transitionsAt, stepTotal, rangeTotal, rawTable}
 use Rattle.model.proofs.Readers.{All}
@@ -21,6 +21,7 @@ use Rattle.model.proofs.Exact.{SpanOf, Divisible}
 use Rattle.model.proofs.TableExact.{point-at, divisible}
 use Rattle.model.proofs.Access.{points-access, bins-access}
 use Rattle.model.proofs.Measure.{sum-add}
+use Rattle.model.proofs.RawValues.{length-bins}
 use Rattle.ranges.specs.Types.{AllWide}
 use Rattle.layout.specs.Places.{layoutOf, Small}
 use Rattle.layout.specs.declared.Layout.{Layout}
@@ -32,11 +33,6 @@ use Rattle.limits.proofs.EntryLaws.{added-at, sum-only}
 use Rattle.limits.proofs.ReadLaws.{read-layout, read-well, bin-points, transition-points}
 
 -- ---- what a table that was read is known to be
-
-pub bins-length : (s : List ℕ) (b r n : ℕ) → length (binsAt s b r n) ≡ n
-unfolding binsAt
-bins-length s b r zero = refl
-bins-length s b r (suc n) = ap suc (bins-length s (b + 8) (r + 17 * u16 s (b + 6)) n)
 
 spans-are : (p : Point) (rs : List Range) → All (SpanOf p) rs → all isSpan rs ≡ true
 unfolding all
@@ -79,7 +75,7 @@ module _ (s : List ℕ) where
     few-bins = omega (arith, bins-access s (rawTable s) (length s) (read-layout s known) .0 .high, number)
       where
         number : length (rawTable s .valueBins) ≡ recordCount s 1
-        number = unfold rawTable in (bins-length s (recordsPlace s 1) (recordsPlace s 2) (recordCount s 1))
+        number = unfold rawTable in (length-bins s (recordsPlace s 1) (recordsPlace s 2) (recordCount s 1))
 
     pub all-countable : all (countable (recordCount s 0)) (binsAt s (recordsPlace s 1) (recordsPlace s 2) (recordCount s 1)) ≡ true
     unfolding rawTable

@@ -16,7 +16,7 @@ use Rattle.model.specs.Format.{byte, u64, rangeRecord, pointRecord}
 use Rattle.model.specs.Ranges.{noValue, nextInRange, nextIn, ascending, size, sizes}
 use Rattle.model.specs.Raw.{rows, rangesAt}
 use Rattle.model.proofs.Booleans.{false-true, and-left, and-right}
-use Rattle.model.proofs.NextValue.{next-ge}
+use Rattle.model.proofs.NextValue.{next-ge, next-below}
 use Rattle.words.proofs.Laws.{none-left, one-left}
 use Rattle.ranges.specs.Types.{valueAt, lowestOf, powerOf}
 use Rattle.limits.specs.declared.values.Stretch.{Stretch}
@@ -46,11 +46,6 @@ unfolding lowestOf powerOf
 low-is s point w sg low ew es h = h ∙ ap₂ (λ (w sg : ℕ). lowestOf w (eqb sg 1)) ew es
 
 -- ---- the next value
-
-next-below : (rs : List Range) (x : ℕ) → nextIn rs x ≤ noValue
-unfolding nextIn
-next-below [] x = omega arith
-next-below (r ∷ rs) x = omega (arith, next-below rs x)
 
 span-next : (lo hi x : ℕ) → x ≤ hi → nextInRange (span lo hi) x ≡ max lo x
 span-next lo hi x h = ap (λ (b : Bool). cond b (max lo x) noValue) (le-leb x hi h)
