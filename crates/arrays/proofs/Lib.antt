@@ -1,1 +1,4 @@
 pub mod PutLaws
+pub mod Written
+pub mod FlatLaws
+pub mod CrossPlaces

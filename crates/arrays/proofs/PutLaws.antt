@@ -1,33 +1,15 @@
--- Laws of lists, and of elements written at a place.
+-- Laws of elements written at a place.
 -- Assumes nothing.
-use mathlib.Core.Path.{_≡_, ap, sym, _∙_}
+use mathlib.Core.Path.{_≡_, ap, ap₂, sym, _∙_}
 use mathlib.Core.List.{List, [], _∷_, _++_, append-assoc, append-nil}
-use Prim.Native.Nat.{ℕ, zero, suc, _+_, _-_, _≤_, _<_}
-use native.Mathlib.Nat.{add-zero, zero-add, add-assoc, sub-zero, zero-sub, suc-sub-suc}
+use Prim.Native.Nat.{ℕ, _+_, _-_, _≤_, _<_}
+use native.Mathlib.Nat.{add-zero, zero-add, add-assoc}
 use native.Mathlib.Numerals.{add-one}
 use native.Mathlib.Omega.{arith}
-use lib.ListN.{length, take, drop, getD, replicate, set, length-append, length-take, length-drop, take-append-drop, drop-of-length-le}
-use lib.Seq.{drop-set-lt, take-suc-set, append-snoc, take-at, drop-at, drop-drop, drop-cons, length-take-le}
+use lib.ListN.{length, take, drop, getD, set, length-append, length-take, length-drop, take-append-drop, drop-of-length-le, List·getD-append}
+use lib.Seq.{drop-set-lt, take-suc-set, append-snoc, take-at, drop-at, drop-drop, length-take-le, getD-append-add, getD-take, getD-drop}
 use borrow.Rule.Slice.PartMut.{putMid, post-is}
 use Rattle.arrays.specs.Put.{put}
-
--- ---- lists
-
--- the list from i on is its element at i, and the list from i + 1 on
-pub head-tail : {A : Type 0} (xs : List A) (i : ℕ) (d : A) → i < length xs → drop i xs ≡ getD xs i d ∷ drop (i + 1) xs
-head-tail xs i d h = rw (add-one i, drop-cons xs i d)
-
-pub left-suc : (n i : ℕ) → i < n → n - i ≡ suc (n - (i + 1))
-left-suc n i h = omega arith
-
-pub drop-replicate : {A : Type 0} (k n : ℕ) (x : A) → drop k (replicate n x) ≡ replicate (n - k) x
-drop-replicate zero n x = rw sub-zero
-drop-replicate (suc k) zero x = rw zero-sub
-drop-replicate (suc k) (suc n) x = rw suc-sub-suc (drop-replicate k n x)
-
--- the part of n - i elements from a on is its first element and the part after it
-pub part-cons : (xs : List ℕ) (a i n : ℕ) → i < n → a < length xs → take (n - i) (drop a xs) ≡ getD xs a 0 ∷ take (n - (i + 1)) (drop (a + 1) xs)
-part-cons xs a i n h k = rw (left-suc n i h, head-tail xs a 0 k)
 
 -- ---- words written at a place
 
@@ -106,3 +88,45 @@ pub front-kept : {A : Type 0} (m : ℕ) (xs l l′ : List A) → length xs ≡ m
 front-kept m xs l l′ n e k =
     let h = put-fits xs l l′ e k in
     (ap (take m) e ∙ front-put m xs l n (omega arith), omega arith)
+
+-- ---- what stands where something was written
+
+pub put-in : {A : Type 0} (n : ℕ) (xs l : List A) (i : ℕ) (d : A) → n ≤ length l → i < length xs → getD (put n xs l) (n + i) d ≡ getD xs i d
+unfolding put
+put-in n xs l i d h k =
+    let e : length (take n l) ≡ n = length-take-le n l h in
+    let inside : n + i < length (take n l ++ xs) = simp length-append (omega arith) in
+    let z : n + i ≡ length (take n l) + i = omega arith in
+    List·getD-append (take n l ++ xs) (drop (n + length xs) l) d (n + i) inside
+    ∙ ap (λ (x : ℕ). getD (take n l ++ xs) x d) z
+    ∙ getD-append-add (take n l) xs i d
+
+pub put-first : {A : Type 0} (xs l : List A) (i : ℕ) (d : A) → i < length xs → getD (put 0 xs l) i d ≡ getD xs i d
+put-first xs l i d h = ap (λ (x : ℕ). getD (put 0 xs l) x d) (let z : i ≡ 0 + i = omega arith in z) ∙ put-in 0 xs l i d (omega arith) h
+
+pub put-before : {A : Type 0} (n : ℕ) (xs l : List A) (i : ℕ) (d : A) → n ≤ length l → i < n → getD (put n xs l) i d ≡ getD l i d
+unfolding put
+put-before n xs l i d h k =
+    let e : length (take n l) ≡ n = length-take-le n l h in
+    List·getD-append (take n l ++ xs) (drop (n + length xs) l) d i (simp length-append (omega arith))
+    ∙ List·getD-append (take n l) xs d i (omega arith)
+    ∙ getD-take n l i d k
+
+pub put-after : {A : Type 0} (n : ℕ) (xs l : List A) (i : ℕ) (d : A) → n ≤ length l → n + length xs ≤ i → getD (put n xs l) i d ≡ getD l i d
+unfolding put
+put-after n xs l i d h k =
+    let e : length (take n l) ≡ n = length-take-le n l h in
+    let m = n + length xs in
+    let q : length (take n l ++ xs) ≡ m = simp length-append (omega arith) in
+    let z : i ≡ length (take n l ++ xs) + (i - m) = omega arith in
+    let y : m + (i - m) ≡ i = omega arith in
+    ap (λ (x : ℕ). getD ((take n l ++ xs) ++ drop m l) x d) z
+    ∙ getD-append-add (take n l ++ xs) (drop m l) (i - m) d
+    ∙ getD-drop m l (i - m) d
+    ∙ ap (λ (x : ℕ). getD l x d) y
+
+-- elements over as many others
+pub put-at : {A : Type 0} (n : ℕ) (p xs ys q : List A) → length p ≡ n → length xs ≡ length ys → put n xs (p ++ ys ++ q) ≡ p ++ xs ++ q
+unfolding put
+put-at {A} n p xs ys q e l =
+    ap₂ (λ (a b : List A). a ++ xs ++ b) (ap (take n) (append-assoc p ys q) ∙ take-at p (ys ++ q) n e) (drop-at (p ++ ys) q (n + length xs) (omega (arith, length-append p ys)))

@@ -2,7 +2,7 @@
 -- Assumes nothing.
 use Prim.Native.Nat.{ℕ, zero, suc, _+_, _*_, _<_, _≤_}
 use mathlib.Core.Path.{_≡_, refl, ap, sym, _∙_, subst}
-use mathlib.Core.Bool.{Bool, true, false, _&&_, _||_, cond}
+use mathlib.Core.Bool.{Bool, true, cond, and-true, or-false}
 use mathlib.Core.List.{List, [], _∷_, map}
 use native.Mathlib.Omega.{arith}
 use lib.Dec.{leb, ltb, eqb}
@@ -25,21 +25,13 @@ use Rattle.words.proofs.Flat.{times-same, each-times}
 
 -- ---- a cross
 
-or-none : (b : Bool) → (b || false) ≡ b
-or-none true = refl
-or-none false = refl
-
-and-all : (b : Bool) → (b && true) ≡ b
-and-all true = refl
-and-all false = refl
-
 pub all-different : (f : ℕ → ℕ) (n : ℕ) → within 2 4 n ≡ true → allDifferent (map f (upFrom 0 n)) ≡ pairsDiffer n (f 0) (f 1) (f 2) (f 3)
 unfolding allDifferent any upFrom pairsDiffer
 all-different f zero h = absurd (let y : 2 ≤ 0 = leb-true 2 0 (and-left (leb 2 0) (leb 0 4) h) in omega arith)
 all-different f (suc zero) h = absurd (let y : 2 ≤ 1 = leb-true 2 1 (and-left (leb 2 1) (leb 1 4) h) in omega arith)
 all-different f (suc (suc zero)) h = refl
 all-different f (suc (suc (suc zero))) h = refl
-all-different f (suc (suc (suc (suc zero)))) h = simp (or-none, and-all)
+all-different f (suc (suc (suc (suc zero)))) h = simp (or-false, and-true)
 all-different f (suc (suc (suc (suc (suc n))))) h =
     absurd (let m = suc (suc (suc (suc (suc n)))) in let y : m ≤ 4 = leb-true m 4 (and-right (leb 2 m) (leb m 4) h) in omega arith)
 

@@ -14,10 +14,11 @@ use Rattle.model.specs.Table.{Point, Select}
 use Rattle.model.specs.Format.{BinHead, byte, times, each, crossPoints, crossHead, crossBinsOwned, CrossBinHead, crossBinHead, CrossParts, tokensOf, tokensOwned, tokenTests, tokenRecord, readToken, expressions, oneExpression, readSelect, readSelects, readTokenSection, ownedCount}
 use Rattle.model.specs.Raw.{rows, crossBinHeadsAt, crossHeadsAt, tokenTotal}
 use Rattle.model.proofs.RawCrosses.{token-total, select-of, selects-in}
+use Rattle.model.proofs.Lists.{none-left, one-left}
 use Rattle.words.specs.Verdicts.{verdict, verdictOf, unlessOk}
 use Rattle.words.specs.Sums.{sumFrom}
 use Rattle.words.specs.declared.verdicts.Verdict.{Verdict}
-use Rattle.words.proofs.Laws.{none-left, one-left, owners-done, owners-stop, owners-on}
+use Rattle.words.proofs.Laws.{owners-done, owners-stop, owners-on}
 use Rattle.words.proofs.Chain.{bind-stop, bind-done, rows-on}
 use Rattle.check_crosses.specs.Crosses.{CrossOk, CrossesOk, found}
 use Rattle.words.proofs.Chain.{says-in, count-stop, count-on}

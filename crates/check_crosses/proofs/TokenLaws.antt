@@ -13,7 +13,7 @@ use borrow.Author.Needs.{needs}
 use borrow.Author.Tests.{ltb-true, ltb-false, eqb-true, lt-leb, le-leb, eq-eqb}
 use Rattle.model.specs.Lists.{upFrom}
 use Rattle.model.specs.Table.{Point, Select, negated, noPoint, isCover}
-use Rattle.model.specs.Format.{Test, field, unused, disagreement, value, byte, u16, u64, kindFrom, pointRecord, BinHead, binHead, noBinHead, valueTests, crossPoints, coverBinOf, tokenRules, tokenTests, tokenRecord, tokenFrom, readToken, Token, leaf, notToken, andToken, orToken, isLeaf, withToken, expressions}
+use Rattle.model.specs.Format.{Test, field, unused, disagreement, byte, u16, u64, pointRecord, BinHead, binHead, noBinHead, valueTests, crossPoints, coverBinOf, tokenRules, tokenTests, tokenRecord, tokenFrom, readToken, Token, leaf, notToken, andToken, orToken, isLeaf, withToken, expressions}
 use Rattle.model.specs.Raw.{rows, pointsAt}
 use Rattle.model.specs.Values.{fieldValue}
 use Rattle.model.proofs.Booleans.{false-true, or-false-right}
@@ -21,23 +21,13 @@ use Rattle.model.proofs.RawLaws.{length-rows, getD-rows}
 use Rattle.words.specs.Verdicts.{verdict, verdictOf, verdictIn, unlessOk}
 use Rattle.words.specs.declared.verdicts.Verdict.{Verdict}
 use Rattle.model.proofs.Fields.{cover-kind}
-use Rattle.words.proofs.Laws.{verdict-record, none-left, one-left}
+use Rattle.model.proofs.Lists.{none-left, one-left, length-row, getD-row}
+use Rattle.words.proofs.Laws.{verdict-record}
 use Rattle.ranges.specs.Types.{typed}
 use Rattle.check_crosses.specs.Crosses.{CrossOk, valueFields, found, wantedAfter, lacks}
 use Rattle.words.proofs.Laws.{verdict-in-append, verdict-in-choice}
 
 -- ---- the point at a position
-
-length-up : (f : ℕ → ℕ) (i n : ℕ) → length (map f (upFrom i n)) ≡ n
-unfolding upFrom
-length-up f i zero = refl
-length-up f i (suc n) = ap suc (length-up f (suc i) n)
-
-getD-up : (f : ℕ → ℕ) (k n i : ℕ) → i < n → getD (map f (upFrom k n)) i 0 ≡ f (k + i)
-unfolding upFrom
-getD-up f k zero i h = absurd (not-suc-le-zero h)
-getD-up f k (suc n) zero h = ap f (let y : k ≡ k + 0 = omega arith in y)
-getD-up f k (suc n) (suc i) h = getD-up f (suc k) n i (omega arith) ∙ ap f (let y : suc k + i ≡ k + suc i = omega arith in y)
 
 getD-past : (f : ℕ → ℕ) (k n i : ℕ) → n ≤ i → getD (map f (upFrom k n)) i 0 ≡ 0
 unfolding upFrom
@@ -47,7 +37,7 @@ getD-past f k (suc n) (suc i) h = getD-past f (suc k) n i (omega arith)
 
 pub point-in : (s : List ℕ) (c i r : ℕ) → i < byte s c → r ≡ byte s (c + 1 + i) → r ≡ getD (crossPoints s c) i 0
 point-in s c i r h e =
-    e ∙ ap (λ (j : ℕ). byte s (c + 1 + j)) (let y : i ≡ 0 + i = omega arith in y) ∙ sym (getD-up (λ j. byte s (c + 1 + j)) 0 (byte s c) i h)
+    e ∙ ap (λ (j : ℕ). byte s (c + 1 + j)) (let y : i ≡ 0 + i = omega arith in y) ∙ sym (getD-row (λ j. byte s (c + 1 + j)) 0 (byte s c) i 0 h)
 
 pub point-out : (s : List ℕ) (c i r : ℕ) → byte s c ≤ i → r ≡ 0 → r ≡ getD (crossPoints s c) i 0
 point-out s c i r h e = e ∙ sym (getD-past (λ j. byte s (c + 1 + j)) 0 (byte s c) i h)
@@ -125,7 +115,7 @@ unfolding readToken
 verdict-token s points np bins nb c at h =
     let p = getD (crossPoints s c) (byte s (at + 1)) 0 in
     verdict-record s 20 (tokenTests s (pointsAt s points np) (rows (binHead s) 8 bins nb) (crossPoints s c)) (tokenRecord s) at
-    ∙ ap (λ (n : ℕ). with n (getD (pointsAt s points np) p noPoint)) (length-up (λ i. byte s (c + 1 + i)) 0 (byte s c))
+    ∙ ap (λ (n : ℕ). with n (getD (pointsAt s points np) p noPoint)) (length-row (λ i. byte s (c + 1 + i)) 0 (byte s c))
     ∙ ap (with (byte s c)) (getD-rows (pointRecord s) 11 points np p noPoint (point-known s np c (byte s (at + 1)) h))
   where
     with : ℕ → Point → Verdict

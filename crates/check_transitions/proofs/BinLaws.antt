@@ -17,19 +17,19 @@ use Rattle.words.specs.Verdicts.{verdictOf}
 use Rattle.words.specs.declared.verdicts.Verdict.{Verdict}
 use Rattle.words.proofs.Laws.{sound-got}
 use Rattle.words.proofs.Chain.{bind-stop}
-use Rattle.check_transitions.specs.Points.{PointsBelow}
 use Rattle.words.proofs.Chain.{says-sound, says-on}
+use Rattle.words.specs.Points.{PointsBelow}
 
 -- ---- a transition bin that is sound names a point
 
-points-in : (s : List ℕ) (points n at : ℕ) {hs : List (TransitionHead ℕ)} {end : ℕ} → times n (readTransition s points) at ≡ got hs end → PointsBelow s at n points
+points-in : (s : List ℕ) (points n at : ℕ) {hs : List (TransitionHead ℕ)} {end : ℕ} → times n (readTransition s points) at ≡ got hs end → PointsBelow s 4 at n points
 unfolding readTransition
 points-in s points n at {hs} {end} e i h =
     let r = readers.rows (readTransition s points) 4 (transitionHead s 0) (λ at next a e. got-record s 4 (transitionTests s points) (transitionHead s) at e .ends) n at hs end e in
     let w = got-record s 4 (transitionTests s points) (transitionHead s) (at + i * 4) (r .row i h) in
     subst (λ (p : ℕ). byte s p < points) (let y : at + i * 4 ≡ at + 4 * i = omega arith in y) (ltb-true _ _ (w .passed .0))
 
-pub points-below : (s : List ℕ) (np n at : ℕ) (a : Verdict) → a ≡ verdictOf (readTransitionSection s np at) → a .class ≡ 0 → n ≡ u16 s at → PointsBelow s (at + 2) n np
+pub points-below : (s : List ℕ) (np n at : ℕ) (a : Verdict) → a ≡ verdictOf (readTransitionSection s np at) → a .class ≡ 0 → n ≡ u16 s at → PointsBelow s 4 (at + 2) n np
 unfolding readTransitionSection
 points-below s np n at a e z en =
     sound-got _ a e z λ hs g. bind-elim (sectionCount s 0 64) (λ n. times n (readTransition s np)) at g λ m next e₁ e₂.

@@ -14,15 +14,16 @@ use Rattle.model.specs.Format.{times, each, byte, ownedCount, pointRecord, tran
 use Rattle.model.specs.Raw.{pointsAt, stepTotal, rangeTotal, sequenceHeadsAt, transitionHeadsAt}
 use Rattle.model.proofs.RawLaws.{getD-rows}
 use Rattle.model.proofs.RawTransitions.{bin-range-total}
+use Rattle.model.proofs.Lists.{none-left, one-left}
 use Rattle.words.specs.Verdicts.{verdict, verdictOf}
 use Rattle.words.specs.declared.verdicts.Verdict.{Verdict}
-use Rattle.words.proofs.Laws.{record-in, none-left, one-left, owners-done, owners-stop, owners-on}
+use Rattle.words.proofs.Laws.{record-in, owners-done, owners-stop, owners-on}
 use Rattle.words.proofs.Chain.{bind-done, times-in}
 use Rattle.ranges.specs.Types.{Wide, AllWide}
-use Rattle.check_transitions.specs.Points.{PointsBelow}
 use Rattle.check_transitions.specs.Sums.{byteSum}
 use Rattle.words.proofs.Chain.{count-stop, count-on}
 use Rattle.words.proofs.Flat.{each-times}
+use Rattle.words.specs.Points.{PointsBelow}
 use Rattle.check_transitions.proofs.SumLaws.{byte-field₀, bytes-add}
 
 -- ---- points
@@ -30,7 +31,7 @@ use Rattle.check_transitions.proofs.SumLaws.{byte-field₀, bytes-add}
 pub wide-of : (s : List ℕ) (points np j : ℕ) → AllWide s points np → j < np → Wide s (points + 11 * j)
 wide-of s points np j w h = w j h
 
-pub point-below : (s : List ℕ) (b n np i bin : ℕ) → PointsBelow s b n np → i < n → bin ≡ b + 4 * i → byte s bin < np
+pub point-below : (s : List ℕ) (b n np i bin : ℕ) → PointsBelow s 4 b n np → i < n → bin ≡ b + 4 * i → byte s bin < np
 point-below s b n np i bin below h e = subst (λ (x : ℕ). byte s x < np) (sym e) (below i h)
 
 -- n ranges of the point with number j, by the place of its record

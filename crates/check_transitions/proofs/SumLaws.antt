@@ -9,7 +9,7 @@ use borrow.Author.Needs.{needs}
 use Rattle.model.specs.Lists.{sumOf}
 use Rattle.model.specs.Format.{byte}
 use Rattle.model.specs.Raw.{rows}
-use Rattle.words.proofs.Laws.{none-left, one-left}
+use Rattle.model.proofs.Lists.{none-left, one-left}
 use Rattle.check_transitions.specs.Sums.{byteSum}
 
 -- a loop's sum so far, with what is left

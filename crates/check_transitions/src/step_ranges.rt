@@ -14,7 +14,7 @@ ghost use Rattle.model.specs.Format.{readRange, readTransitionRanges, readStepR
 ghost use Rattle.model.specs.Raw.{pointsAt, transitionHeadsAt};
 ghost use Rattle.words.specs.Verdicts.{verdictOf};
 ghost use Rattle.ranges.specs.Types.{AllWide};
-ghost use Rattle.check_transitions.specs.Points.{PointsBelow};
+ghost use Rattle.words.specs.Points.{PointsBelow};
 ghost use Rattle.check_transitions.specs.Sums.{byteSum};
 
 // The ranges of the k steps whose records begin at p, of the bin whose record is at b; the np points' records begin at points.
@@ -48,7 +48,7 @@ fn ranges_each(
     start: usize,
 ) -> Verdict
     requires { ⌜ (start ≤ length (now t)) × (length (now t) ≤ 65536) × (points + 11 * np ≤ length (now t)) × (b + 4 * n ≤ length (now t)) × (q ≤ length (now t)) × (p ≤ length (now t)) ⌝ }
-    requires { ⌜ PointsBelow (now t) b n np × AllWide (now t) points np ⌝ }
+    requires { ⌜ PointsBelow (now t) 4 b n np × AllWide (now t) points np ⌝ }
     ensures { λ r. ⌜ r ≡ verdictOf (each (readTransitionRanges (now (t .entry)) (pointsAt (now (t .entry)) points np)) (transitionHeadsAt (now (t .entry)) b q p n) start) ⌝ }
 {
     let mut at = start;
@@ -85,7 +85,7 @@ pub fn step_range_section(
     at: usize,
 ) -> Verdict
     requires { ⌜ (at ≤ length (now t)) × (length (now t) ≤ 65536) × (points + 11 * np ≤ length (now t)) × (b + 4 * n ≤ length (now t)) × (q ≤ length (now t)) × (p ≤ length (now t)) ⌝ }
-    requires { ⌜ PointsBelow (now t) b n np × AllWide (now t) points np ⌝ }
+    requires { ⌜ PointsBelow (now t) 4 b n np × AllWide (now t) points np ⌝ }
     ensures { λ r. ⌜ r ≡ verdictOf (readStepRangeSection (now (t .entry)) (pointsAt (now (t .entry)) points np) (transitionHeadsAt (now (t .entry)) b q p n) at) ⌝ }
 {
     let sequences = sum_bytes(t, 4, b + 3, n);

@@ -15,8 +15,9 @@ use Rattle.model.specs.Table.{isDefault}
 use Rattle.model.specs.Format.{Read, got, andThen, byte, u16, BinHead, binHead, binRules, binTests, defaultsWith, firstDefault, readBinHeads}
 use Rattle.words.specs.Verdicts.{verdict, verdictOf, verdictIn, unlessOk}
 use Rattle.words.specs.declared.verdicts.Verdict.{Verdict}
-use Rattle.words.proofs.Laws.{verdict-record, verdict-stop, verdict-done, record-got, sound-record, class-of, none-left, one-left}
+use Rattle.words.proofs.Laws.{verdict-record, verdict-stop, verdict-done, record-got, sound-record, class-of}
 use Rattle.model.proofs.Fields.{default-kind}
+use Rattle.model.proofs.Lists.{none-left, one-left}
 use Rattle.check_values.specs.Places.{defaultsUpTo, readBin, isDefaultOf}
 
 pub heads-step : (s : List ℕ) (points base i n : ℕ) → verdictOf (readBin s points base i (base + 8 * i)) .class ≡ 0

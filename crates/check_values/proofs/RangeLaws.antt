@@ -15,8 +15,9 @@ use Rattle.words.specs.Verdicts.{verdictOf}
 use Rattle.words.specs.declared.verdicts.Verdict.{Verdict}
 use Rattle.words.proofs.Laws.{verdict-done, eachs}
 use Rattle.words.proofs.Chain.{times-in}
+use Rattle.words.specs.Points.{PointsBelow}
 use Rattle.ranges.specs.Types.{AllWide}
-use Rattle.check_values.specs.Places.{Typed, AllKnown}
+use Rattle.check_values.specs.Places.{Typed}
 use Rattle.model.proofs.Fields.{cover-kind, single-form}
 
 verdict-bin-ranges : (s : List ℕ) (ps : List Point) (h : BinHead) (at : ℕ)
@@ -33,7 +34,7 @@ verdict-bin-at s points np bin at h =
     ∙ ap₂ (λ (p : Point) (b : Bool). verdictOf (times (u16 s (bin + 6)) (readRange s p b) at)) (getD-rows (pointRecord s) 11 points np (byte s bin) noPoint h)
     (ap₂ (λ (x y : Bool). x && y) (cover-kind (byte s (bin + 1))) (single-form (byte s (bin + 2)) (u16 s (bin + 3))))
 
-module _ (s : List ℕ) (points np bins n : ℕ) (wide : AllWide s points np) (known : AllKnown s np bins n) (i bin : ℕ) (h : i < n) (e : bin ≡ bins + 8 * i) where
+module _ (s : List ℕ) (points np bins n : ℕ) (wide : AllWide s points np) (known : PointsBelow s 8 bins n np) (i bin : ℕ) (h : i < n) (e : bin ≡ bins + 8 * i) where
   known-at : byte s bin < np
   known-at = rw e (known i h)
 

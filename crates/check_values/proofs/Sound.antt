@@ -11,8 +11,8 @@ use Rattle.model.specs.Table.{Point, ValueBin, noPoint}
 use Rattle.model.specs.Format.{got, andThen, times, readRecord, byte, u16, sectionCount, ownedCount, readPointSection, readPoint, pointTests, pointRecord, BinHead, binHead, binRules, binTests, defaultsWith, rangesOwned, readBinHeads, readBinSection, readBinRanges, readRangeSection, each}
 use Rattle.model.proofs.Readers.{then-elim, bind-elim, got-record}
 use Rattle.model.proofs.Access.{section-count, owned-count, records}
+use Rattle.words.specs.Points.{PointsBelow}
 use Rattle.ranges.specs.Types.{Wide, AllWide}
-use Rattle.check_values.specs.Places.{AllKnown}
 use Rattle.check_values.proofs.Bounds.{within-wide}
 
 -- ---- points
@@ -37,7 +37,7 @@ module _ (s : List ℕ) (at : ℕ) (ps : List Point) (end : ℕ) (e : readPointS
 
 -- ---- value bins
 
-heads-known : (s : List ℕ) (points n : ℕ) (defaults : List ℕ) (at : ℕ) (hs : List BinHead) (end : ℕ) → readBinHeads s points n defaults at ≡ got hs end → AllKnown s points at n
+heads-known : (s : List ℕ) (points n : ℕ) (defaults : List ℕ) (at : ℕ) (hs : List BinHead) (end : ℕ) → readBinHeads s points n defaults at ≡ got hs end → PointsBelow s 8 at n points
 unfolding readBinHeads binRules
 heads-known s points zero defaults at hs end e i h = absurd (not-suc-le-zero h)
 heads-known s points (suc n) defaults at hs end e i h =
@@ -48,7 +48,7 @@ heads-known s points (suc n) defaults at hs end e i h =
     let r = got-record s 8 (binTests s points defaults) (binHead s) at e₁ in
     first next (ltb-true (byte s at) points (r .passed .0)) (r .ends) (heads-known s points n (defaultsWith b defaults) next others end′ e₃) i h
   where
-    first : (next : ℕ) → byte s at < points → next ≡ at + 8 → AllKnown s points next n → AllKnown s points at (suc n)
+    first : (next : ℕ) → byte s at < points → next ≡ at + 8 → PointsBelow s 8 next n points → PointsBelow s 8 at (suc n) points
     first next k y rest zero h = subst (λ (x : ℕ). byte s x < points) (let z : at ≡ at + 8 * 0 = omega arith in z) k
     first next k y rest (suc i) h = subst (λ (x : ℕ). byte s x < points) (let z : next + 8 * i ≡ at + 8 * suc i = omega arith in z) (rest i (omega arith))
 
@@ -60,7 +60,7 @@ module _ (s : List ℕ) (points at : ℕ) (hs : List BinHead) (end : ℕ) (e : r
       let c = section-count s 0 512 at n next e₁ in
       omega (arith, c .said, c .high)
 
-  pub bins-known : AllKnown s points (at + 2) (u16 s at)
+  pub bins-known : PointsBelow s 8 (at + 2) (u16 s at) points
   unfolding readBinSection
   bins-known i h =
       bind-elim (sectionCount s 0 512) (λ n. readBinHeads s points n []) at e λ n next e₁ e₂.

@@ -1,4 +1,4 @@
--- Value bins by their places: the points with a default among the first bins, and bins whose points are there.
+-- Value bins by their places: the points with a default among the first bins, and a bin whose point is there.
 -- Assumes nothing.
 use Prim.Native.Nat.{ℕ, zero, suc, _+_, _*_, _<_, _≤_}
 use mathlib.Core.Bool.{Bool, _&&_}
@@ -19,10 +19,6 @@ readBin s points base i = readRecord s 8 (binTests s points (defaultsUpTo s base
 -- the bin at `at` is a default of point p
 unfoldable pub isDefaultOf : List ℕ → ℕ → ℕ → Bool
 isDefaultOf s p at = leb 3 (byte s (at + 1)) && eqb p (byte s at)
-
--- the n bins whose records stand from `bins` on are each of one of np points
-abbrev pub AllKnown : List ℕ → ℕ → ℕ → ℕ → Type 0
-AllKnown s np bins n = (i : ℕ) → i < n → byte s (bins + 8 * i) < np
 
 -- the bin at `bin` is of one of the np points whose records stand from `points` on, and that point's width is a width
 pub record Typed (s : List ℕ) (points np bin : ℕ) : Type 0 where

@@ -13,7 +13,8 @@ ghost use Rattle.model.specs.Raw.{rows, pointsAt};
 ghost use Rattle.words.specs.Sums.{sumFrom};
 ghost use Rattle.words.specs.Verdicts.{verdictOf};
 ghost use Rattle.ranges.specs.Types.{AllWide};
-ghost use Rattle.check_values.specs.Places.{Typed, AllKnown};
+ghost use Rattle.words.specs.Points.{PointsBelow};
+ghost use Rattle.check_values.specs.Places.{Typed};
 
 // The ranges that n bins own together.
 fn owned_ranges(t: &[u8], n: usize, base: usize) -> usize
@@ -46,7 +47,7 @@ fn bin_ranges(t: &[u8], points: usize, np: usize, bin: usize, at: usize) -> Verd
 // The ranges of the n bins whose records begin at bins.
 fn ranges_fault(t: &[u8], points: usize, np: usize, bins: usize, n: usize, start: usize) -> Verdict
     requires { ⌜ (start ≤ length (now t)) × (points + 11 * np ≤ length (now t)) × (bins + 8 * n ≤ length (now t)) × (length (now t) ≤ 65536) ⌝ }
-    requires { ⌜ AllWide (now t) points np × AllKnown (now t) np bins n ⌝ }
+    requires { ⌜ AllWide (now t) points np × PointsBelow (now t) 8 bins n np ⌝ }
     ensures { λ r. ⌜ r ≡ verdictOf (each (readBinRanges (now (t .entry)) (pointsAt (now (t .entry)) points np)) (rows (binHead (now (t .entry))) 8 bins n) start) ⌝ }
 {
     let mut at = start;
@@ -74,7 +75,7 @@ pub fn range_section(
     at: usize,
 ) -> Verdict
     requires { ⌜ (at ≤ length (now t)) × (points + 11 * np ≤ length (now t)) × (bins + 8 * n ≤ length (now t)) × (length (now t) ≤ 65536) ⌝ }
-    requires { ⌜ AllWide (now t) points np × AllKnown (now t) np bins n ⌝ }
+    requires { ⌜ AllWide (now t) points np × PointsBelow (now t) 8 bins n np ⌝ }
     ensures { λ r. ⌜ r ≡ verdictOf (readRangeSection (now (t .entry)) (pointsAt (now (t .entry)) points np) (rows (binHead (now (t .entry))) 8 bins n) at) ⌝ }
 {
     let sum = owned_ranges(t, n, bins);

@@ -1,4 +1,3 @@
 pub mod AnswerLaws
-pub mod Extra
 pub mod ItemLaws
 pub mod TallyLaws

@@ -14,8 +14,9 @@ use Rattle.model.specs.Lists.{count, asBit}
 use Rattle.model.specs.Table.{Table}
 use Rattle.model.specs.Counters.{Counter}
 use Rattle.model.specs.Figures.{inTotal, itemOf, atLeast, ofItem, total, covered}
+use Rattle.model.proofs.Lists.{part-cons}
+use Rattle.model.proofs.RunBits.{asBit-le, asBit-eqb}
 use Rattle.arrays.specs.Flat.{totalFlags, itemsOf}
-use Rattle.arrays.proofs.PutLaws.{part-cons}
 use Rattle.coverage.specs.Tallies.{itemTotal, itemCovered}
 
 -- ---- what is left of a pass
@@ -52,22 +53,18 @@ module _ (j least : ℕ) (xs fs w : List ℕ) (i n : ℕ) (h : i < n) (hx : n �
 
 -- ---- bounds
 
-bit-le : (b : Bool) → asBit b ≤ 1
-bit-le true = omega arith
-bit-le false = omega arith
-
 total-le : (j : ℕ) (xs fs : List ℕ) → itemTotal j xs fs ≤ length xs
 unfolding itemTotal
 total-le j [] fs = omega arith
 total-le j (x ∷ xs) [] = omega arith
-total-le j (x ∷ xs) (f ∷ fs) = omega (arith, bit-le (eqb x j && eqb f 1), total-le j xs fs)
+total-le j (x ∷ xs) (f ∷ fs) = omega (arith, asBit-le (eqb x j && eqb f 1), total-le j xs fs)
 
 covered-len : (j least : ℕ) (xs fs ns : List ℕ) → itemCovered j least xs fs ns ≤ length xs
 unfolding itemCovered
 covered-len j least [] fs ns = omega arith
 covered-len j least (x ∷ xs) [] ns = omega arith
 covered-len j least (x ∷ xs) (f ∷ fs) [] = omega arith
-covered-len j least (x ∷ xs) (f ∷ fs) (n ∷ ns) = omega (arith, bit-le ((eqb x j && eqb f 1) && leb least n), covered-len j least xs fs ns)
+covered-len j least (x ∷ xs) (f ∷ fs) (n ∷ ns) = omega (arith, asBit-le ((eqb x j && eqb f 1) && leb least n), covered-len j least xs fs ns)
 
 pub total-most : (j : ℕ) (xs fs : List ℕ) (n : ℕ) → n ≤ length xs → itemTotal j (take n xs) (take n fs) ≤ n
 total-most j xs fs n h = omega (arith, total-le j (take n xs) (take n fs), length-take-le n xs h)
@@ -77,10 +74,6 @@ covered-most j least xs fs ns n h = omega (arith, covered-len j least (take n xs
 
 -- ---- the tallies of a table's counters
 
-flag-bit : (b : Bool) → eqb (asBit b) 1 ≡ b
-flag-bit true = refl
-flag-bit false = refl
-
 bit-cond : (b : Bool) → asBit b ≡ cond b 1 0
 bit-cond true = refl
 bit-cond false = refl
@@ -89,14 +82,14 @@ pub total-exact : (t : Table) (j : ℕ) (cs : List Counter) → itemTotal j (ite
 unfolding itemTotal itemsOf totalFlags total count
 total-exact t j [] = refl
 total-exact t j (c ∷ cs) =
-    ap₂ _+_ (ap (λ (b : Bool). asBit (eqb (itemOf t c) j && b)) (flag-bit (inTotal t c)) ∙ bit-cond (ofItem t j c)) (total-exact t j cs)
+    ap₂ _+_ (ap (λ (b : Bool). asBit (eqb (itemOf t c) j && b)) (asBit-eqb (inTotal t c)) ∙ bit-cond (ofItem t j c)) (total-exact t j cs)
 
 pub covered-exact : (t : Table) (j : ℕ) (cs : List Counter) (ns : List ℕ) → itemCovered j (atLeast t j) (itemsOf t cs) (totalFlags t cs) ns ≡ covered t j cs ns
 unfolding itemCovered itemsOf totalFlags covered
 covered-exact t j [] ns = refl
 covered-exact t j (c ∷ cs) [] = refl
 covered-exact t j (c ∷ cs) (n ∷ ns) =
-    ap₂ _+_ (ap (λ (b : Bool). asBit ((eqb (itemOf t c) j && b) && leb (atLeast t j) n)) (flag-bit (inTotal t c)) ∙ bit-cond (ofItem t j c && leb (atLeast t j) n)) (covered-exact t j cs ns)
+    ap₂ _+_ (ap (λ (b : Bool). asBit ((eqb (itemOf t c) j && b) && leb (atLeast t j) n)) (asBit-eqb (inTotal t c)) ∙ bit-cond (ofItem t j c && leb (atLeast t j) n)) (covered-exact t j cs ns)
 
 -- ---- turns
 

@@ -1,8 +1,8 @@
 // Totals and covered counters of items, by one pass over the counters.
+use arrays::raised;
 ghost use mathlib.Core.Path.{_≡_};
 ghost use Prim.Native.Nat.{_<_, _≤_, _+_};
 ghost use lib.ListN.{length, take, drop};
-ghost use Rattle.model.specs.Lists.{asBit};
 ghost use Rattle.coverage.specs.Tallies.{itemTotal, itemCovered, Tallied};
 
 // One item's.
@@ -21,13 +21,6 @@ fn wide(x: u8) -> usize
     ensures { λ r. ⌜ (r ≡ x) × (r < 256) ⌝ }
 {
     x as usize
-}
-
-fn raised(n: u32, hit: bool) -> u32
-    requires { ⌜ n < 4294967295 ⌝ }
-    ensures { λ r. ⌜ r ≡ asBit hit + n ⌝ }
-{
-    if hit { n + 1 } else { n }
 }
 
 // Of n counters, whose counts stand in the register from word 2 on.

@@ -1,7 +1,7 @@
 -- An accepted table: what the searches ask of it, and its cover bins by the places of its bytes.
 -- Assumes nothing.
 use mathlib.Core.Path.{_≡_, refl, sym, ap, ap₂, _∙_, subst}
-use mathlib.Core.Bool.{Bool, true, false, _&&_, cond}
+use mathlib.Core.Bool.{Bool, true, _&&_}
 use mathlib.Core.List.{List, [], _∷_, _++_, map}
 use Prim.Native.Nat.{ℕ, _+_, _*_, _≤_, _<_}
 use native.Mathlib.Omega.{arith}
@@ -10,22 +10,23 @@ use lib.ListN.{length, replicate, length-map}
 use lib.Pow.{pow-mono}
 use borrow.Author.Tests.{le-leb}
 use Rattle.model.specs.Lists.{all, asBit, pairUp, sumOf}
-use Rattle.model.specs.Table.{Point, Kind, cover, ignore, illegal, default, Range, span, pattern, ValueBin, Table, isCover, excludes}
+use Rattle.model.specs.Table.{Point, Range, span, pattern, ValueBin, Table, excludes}
 use Rattle.model.specs.Values.{lowest, highest}
-use Rattle.model.specs.Counters.{CoverBin, Counter, valueBin, defaultBin, illegalBin, transition, illegalTransition, crossBin, illegalCross, product, pointAt, pointOf, autoCount, hasAuto, valueCounters, pointCounters, coverBins, meets, hasValue}
+use Rattle.model.specs.Counters.{CoverBin, pointAt, pointOf, autoCount, hasAuto, valueCounters, pointCounters, meets, hasValue}
 use Rattle.model.specs.Ranges.{sizes, rangesOf, excludedRanges, coverRanges, hasValueIn}
-use Rattle.model.specs.Format.{isSingle, allowsPatterns, u16, pointRecord, decode, decoded, accepted, tableOf}
-use Rattle.model.specs.Raw.{countPlace, recordCount, recordsPlace, binsAt, rawTable}
+use Rattle.model.specs.Format.{allowsPatterns, u16, pointRecord, decode, decoded, accepted, tableOf}
+use Rattle.model.specs.Raw.{countPlace, recordCount, binsAt}
 use Rattle.model.specs.Register.{pointTotal}
-use Rattle.model.proofs.Booleans.{false-true, and-right}
-use Rattle.model.proofs.Readers.{All}
+use Rattle.model.proofs.Readers.{All, all-both}
 use Rattle.model.proofs.Sections.{acceptance, accepted-decodes, accepted-layout}
-use Rattle.model.proofs.Access.{points-access, ranges-access}
+use Rattle.model.proofs.Access.{ranges-access}
 use Rattle.model.proofs.WellFormed.{GoodPoint, Legal, GoodBin, WellFormed, well-formed}
-use Rattle.model.proofs.TableExact.{numberIn, point-at, meets-exact, hasValue-exact}
-use Rattle.model.proofs.Limits.{cover-numbers}
-use Rattle.model.proofs.RawLaws.{length-rows}
-use Rattle.model.proofs.RawExact.{raw-exact}
+use Rattle.model.proofs.TableExact.{numberIn, point-at, meets-exact, hasValue-exact, excluded-spans}
+use Rattle.model.proofs.Limits.{cover-numbers, covers-fewer}
+use Rattle.model.proofs.RawExact.{raw-exact, many-points}
+use Rattle.model.proofs.Lists.{pair-first, pair-same}
+use Rattle.model.proofs.NextValue.{IsSpan}
+use Rattle.model.proofs.Selects.{own-covers}
 use Rattle.ranges.specs.Types.{Wide}
 use Rattle.layout.specs.Places.{layoutOf}
 use Rattle.layout.specs.declared.Layout.{Layout}
@@ -37,33 +38,15 @@ use Rattle.values.specs.Points.{hasAutoAt}
 use Rattle.values.proofs.PointExact.{auto-raw, point-raw, few-counters, few-values}
 use Rattle.values.proofs.Ready.{all-near, bins-raw, wide}
 use Rattle.covers.specs.Parts.{partsIn, autoParts, originsIn, pointParts, pointOrigins, leftBit, leftBits, smallBin, Searchable, hasBit}
-use Rattle.covers.proofs.Extra.{pair-map, pair-same, all-both, all-join}
-use Rattle.covers.proofs.PartsExact.{own-covers, covers-ranges, covers-origins}
+use Rattle.covers.proofs.PartsExact.{covers-ranges, covers-origins}
 
 -- ---- ranges
 
-excludes-no-cover : (k : Kind) → excludes k ≡ true → isCover k ≡ false
-excludes-no-cover cover e = absurd (false-true e)
-excludes-no-cover ignore e = refl
-excludes-no-cover illegal e = refl
-excludes-no-cover default e = refl
-
-legal-spans : (q : Point) (patterns : Bool) → patterns ≡ false → (rs : List Range) → All (Legal q patterns) rs → all isSpan rs ≡ true
+all-spans : (rs : List Range) → All IsSpan rs → all isSpan rs ≡ true
 unfolding all
-legal-spans q patterns e [] h = refl
-legal-spans q patterns e (span lo hi ∷ rs) h = legal-spans q patterns e rs (h .1)
-legal-spans q patterns e (pattern bits mask ∷ rs) h = absurd (false-true (sym e ∙ h .0 .0))
-
-excluded-all : (ps : List Point) (p : ℕ) (bs : List ValueBin) → All (GoodBin ps) bs → all isSpan (rangesOf excludes p bs) ≡ true
-unfolding rangesOf
-excluded-all ps p [] h = unfold all in refl
-excluded-all ps p (b ∷ bs) h =
-    all-join isSpan (cond (eqb (b .point) p && excludes (b .kind)) (b .ranges) []) (rangesOf excludes p bs) (go (eqb (b .point) p && excludes (b .kind)) refl) (excluded-all ps p bs (h .1))
-  where
-    go : (c : Bool) → (eqb (b .point) p && excludes (b .kind)) ≡ c → all isSpan (cond c (b .ranges) []) ≡ true
-    go true e =
-        legal-spans _ (allowsPatterns b) (ap (_&& isSingle (b .form)) (excludes-no-cover (b .kind) (and-right (eqb (b .point) p) (excludes (b .kind)) e))) (b .ranges) (h .0)
-    go false e = unfold all in refl
+all-spans [] h = refl
+all-spans (span lo hi ∷ rs) h = all-spans rs (h .1)
+all-spans (pattern bits mask ∷ rs) h = absurd (h .0)
 
 sizes-legal : (q : Point) (patterns : Bool) → GoodPoint q → (rs : List Range) → All (Legal q patterns) rs → sizes rs ≤ length rs * 8589934592
 unfolding sizes sumOf
@@ -77,20 +60,6 @@ small-all t w [] h few = refl
 small-all t w (b ∷ bs) h few =
     ap₂ _&&_ (le-leb (sizes (b .ranges)) 17592186044416 (omega (arith, sizes-legal (pointAt t (b .point)) (allowsPatterns b) (point-at t w (b .point)) (b .ranges) (h .0))))
     (small-all t w bs (h .1) (omega arith))
-
--- ---- counts
-
-cover-le : (cs : List Counter) → length (coverBins cs) ≤ length cs
-unfolding coverBins
-cover-le [] = omega arith
-cover-le (valueBin c ∷ cs) = omega (arith, cover-le cs)
-cover-le (defaultBin b ∷ cs) = omega (arith, cover-le cs)
-cover-le (illegalBin b ∷ cs) = omega (arith, cover-le cs)
-cover-le (transition b ∷ cs) = omega (arith, cover-le cs)
-cover-le (illegalTransition b ∷ cs) = omega (arith, cover-le cs)
-cover-le (crossBin c i ∷ cs) = omega (arith, cover-le cs)
-cover-le (illegalCross c i ∷ cs) = omega (arith, cover-le cs)
-cover-le (product c xs ∷ cs) = omega (arith, cover-le cs)
 
 -- ---- by the places of a layout
 
@@ -113,17 +82,14 @@ module _ (s : List ℕ) (ok : accepted s ≡ true) where
   w : WellFormed T
   w = well-formed s T e
 
-  pub few-points : pointTotal (tableOf s) ≤ 16
-  few-points = points-access s T (length s) (accepted-layout s ok) .0 .high
-
   pub points-read : (n : ℕ) → n ≡ u16 s 0 → n ≡ pointTotal (tableOf s)
-  unfolding rawTable recordCount countPlace
-  points-read n en = en ∙ sym (length-rows (pointRecord s) 11 (recordsPlace s 0) (recordCount s 0)) ∙ sym (ap (λ (u : Table). length (u .points)) (raw-exact s T e))
+  unfolding recordCount countPlace
+  points-read n en = en ∙ sym (many-points s ok)
 
   module _ (p : ℕ) (inside : p < pointTotal (tableOf s)) where
     pub few-covers : length (covers (tableOf s) p) ≤ 256
     unfolding covers
-    few-covers = omega (arith, cover-le (pointCounters T p), few-counters s T e p inside)
+    few-covers = omega (arith, covers-fewer (pointCounters T p), few-counters s T e p inside)
 
     few : length (valueCounters T p 0 (T .valueBins)) ≤ 256
     few = few-values s T e p inside
@@ -158,7 +124,7 @@ module _ (s : List ℕ) (ok : accepted s ≡ true) where
       pub searchable : Searchable s (l .bins) (l .ranges) (l .«bin_count») p
       searchable =
           record {
-            spans = ap (λ (bs : List ValueBin). all isSpan (rangesOf excludes p bs)) (sym bins-are) ∙ excluded-all (T .points) p (T .valueBins) (w .bins);
+            spans = ap (λ (bs : List ValueBin). all isSpan (rangesOf excludes p bs)) (sym bins-are) ∙ all-spans _ (excluded-spans (T .points) p (T .valueBins) (w .bins));
             small = ap (all smallBin) (sym bins-are) ∙ small-all T w (T .valueBins) (w .bins) (ranges-access s T (length s) (accepted-layout s ok) .0 .high);
           }
 
@@ -198,11 +164,11 @@ module _ (s : List ℕ) (ok : accepted s ≡ true) where
             ∙ meets-left T c lo hi ∙ ap (λ (n : ℕ). leftIn (coverRanges T c) (excludedRanges T n) lo hi) own ∙ ap (λ (E : List Range). leftIn (coverRanges T c) E lo hi) excluded-is
 
         pub meet-bits : (gates : List ℕ) → pairUp (meetBit (tableOf s) lo hi) (covers (tableOf s) p) gates ≡ leftBits (excludedOf s l p) lo hi (partsOf s l p) gates
-        unfolding leftBits
+        unfolding leftBits covers
         meet-bits gates =
-            pair-map (leftBit (excludedOf s l p) lo hi) (coverRanges T) (meetBit T lo hi) (covers T p) gates
+            pair-first (leftBit (excludedOf s l p) lo hi) (coverRanges T) (meetBit T lo hi) (covers T p) gates
             (all-both (λ c. pointOf T c ≡ p) (λ c. numberIn c < 256) (λ c. (g : ℕ) → meetBit T lo hi c g ≡ leftBit (excludedOf s l p) lo hi (coverRanges T c) g)
-            (λ c own number g. ap (λ (b : Bool). asBit (eqb g 1 && b)) (meets-is c own number)) (covers T p) (own-covers T p w few) small-numbers)
+            (λ c own number g. ap (λ (b : Bool). asBit (eqb g 1 && b)) (meets-is c own number)) (covers T p) (own-covers T p) small-numbers)
             ∙ ap (λ (ps : List (List Range)). pairUp (leftBit (excludedOf s l p) lo hi) ps gates) parts-are
 
       -- some value at all
@@ -217,10 +183,10 @@ module _ (s : List ℕ) (ok : accepted s ≡ true) where
             ∙ ap₂ (leftIn (coverRanges T c) (excludedOf s l p)) (sym el₀) (sym eh)
 
         pub has-bits : map (hasBit (tableOf s)) (covers (tableOf s) p) ≡ leftBits (excludedOf s l p) lo hi (partsOf s l p) (replicate 256 1)
-        unfolding leftBits
+        unfolding leftBits covers
         has-bits =
             sym (pair-same (λ c g. asBit (eqb g 1 && hasValue T c)) (hasBit T) 1 (λ c. refl) (covers T p) 256 few-covers)
-            ∙ pair-map (leftBit (excludedOf s l p) lo hi) (coverRanges T) (λ c g. asBit (eqb g 1 && hasValue T c)) (covers T p) (replicate 256 1)
+            ∙ pair-first (leftBit (excludedOf s l p) lo hi) (coverRanges T) (λ c g. asBit (eqb g 1 && hasValue T c)) (covers T p) (replicate 256 1)
             (all-both (λ c. pointOf T c ≡ p) (λ c. numberIn c < 256) (λ c. (g : ℕ) → asBit (eqb g 1 && hasValue T c) ≡ leftBit (excludedOf s l p) lo hi (coverRanges T c) g)
-            (λ c own number g. ap (λ (b : Bool). asBit (eqb g 1 && b)) (has-is c own number)) (covers T p) (own-covers T p w few) small-numbers)
+            (λ c own number g. ap (λ (b : Bool). asBit (eqb g 1 && b)) (has-is c own number)) (covers T p) (own-covers T p) small-numbers)
             ∙ ap (λ (ps : List (List Range)). pairUp (leftBit (excludedOf s l p) lo hi) ps (replicate 256 1)) parts-are

@@ -11,11 +11,12 @@ use lib.Seq.{drop-drop, drop-cons}
 use borrow.Author.Needs.{needs}
 use Rattle.model.specs.Lists.{pairUp, asBit}
 use Rattle.model.specs.Table.{Range}
+use Rattle.model.proofs.Lists.{pair-append, pair-length}
 use Rattle.arrays.specs.Put.{put}
 use Rattle.arrays.proofs.PutLaws.{put-nil}
+use Rattle.arrays.proofs.Written.{Written, written-start, written-end, written-turn}
 use Rattle.left.specs.Left.{leftIn}
 use Rattle.covers.specs.Parts.{leftBit, leftBits}
-use Rattle.covers.proofs.Extra.{Written, written-start, written-end, written-turn, pair-append, pair-length}
 
 -- ---- a gate
 

@@ -12,8 +12,7 @@ use borrow.Author.Tests.{lt-ltb, le-ltb}
 use Rattle.model.specs.Lists.{upFrom}
 use Rattle.model.specs.Table.{Range}
 use Rattle.model.specs.Ranges.{noValue, nextIn, ascending, portionRanges}
-use Rattle.model.proofs.Runs.{length-upFrom}
-use Rattle.words.proofs.Laws.{none-left, one-left}
+use Rattle.model.proofs.Lists.{length-upFrom, none-left, one-left}
 use Rattle.covers.specs.Parts.{oneValue, valueParts, portionParts}
 
 -- ---- one bin per value

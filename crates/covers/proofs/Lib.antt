@@ -1,4 +1,3 @@
-pub mod Extra
 pub mod BitLaws
 pub mod FormLaws
 pub mod PartLaws

@@ -10,7 +10,7 @@ use Rattle.model.specs.Values.{lowest, highest}
 use Rattle.model.specs.Counters.{autoCount}
 use Rattle.model.specs.Format.{u16, pointRecord}
 use Rattle.model.specs.Raw.{binAt, binsAt}
-use Rattle.words.proofs.Laws.{none-left, one-left}
+use Rattle.model.proofs.Lists.{none-left, one-left}
 use Rattle.values.specs.Points.{hasAutoAt}
 use Rattle.covers.specs.Parts.{ownParts, autoParts, originsIn, pointOrigins}
 

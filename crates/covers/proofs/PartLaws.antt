@@ -16,11 +16,10 @@ use Rattle.model.specs.Format.{byte, u16, formFrom, kindFrom, pointRecord}
 use Rattle.model.specs.Ranges.{sizes}
 use Rattle.model.specs.Raw.{binAt, binsAt, rangesAt}
 use Rattle.model.proofs.Booleans.{and-left, and-right}
-use Rattle.model.proofs.Fields.{cover-kind}
-use Rattle.words.proofs.Laws.{none-left, one-left}
+use Rattle.model.proofs.Lists.{none-left, one-left}
+use Rattle.model.proofs.Fields.{fixed-form, cover-kind}
 use Rattle.ranges.specs.Types.{powerOf}
 use Rattle.values.specs.Points.{hasAutoAt}
-use Rattle.values.proofs.Laws.{fixed-form}
 use Rattle.covers.specs.Parts.{valueParts, portionParts, parts, ownParts, partsIn, autoParts, pointParts, smallBin}
 
 -- ---- by form

@@ -1,11 +1,12 @@
 -- The cover bins of a point of a decoded table, by number, and the ranges of each.
 -- Assumes nothing.
-use mathlib.Core.Path.{_≡_, refl, sym, ap, ap₂, _∙_, subst}
+use mathlib.Core.Path.{_≡_, refl, sym, ap, ap₂, _∙_}
 use mathlib.Core.Bool.{Bool, true, false, _&&_, cond}
-use mathlib.Core.List.{List, [], _∷_, _++_, map, append-nil}
-use Prim.Native.Nat.{ℕ, suc, _+_, _≤_, _<_}
+use mathlib.Core.List.{List, [], _∷_, _++_, map, append-nil, map-append}
+use Prim.Native.Nat.{ℕ, suc, _+_, _≤_, _<_, zero}
 use native.Mathlib.Omega.{arith}
 use native.Mathlib.Numerals.{add-one}
+use native.Mathlib.Nat.{zero-add}
 use lib.Dec.{eqb}
 use lib.ListN.{length, getD, replicate, length-append, length-map}
 use lib.Seq.{take-all}
@@ -13,18 +14,16 @@ use borrow.Author.Tests.{eqb-true}
 use Rattle.model.specs.Lists.{upFrom}
 use Rattle.model.specs.Table.{Point, Kind, cover, ignore, illegal, default, Form, single, perValue, fixed, Range, span, ValueBin, Table, isCover, noValueBin}
 use Rattle.model.specs.Values.{lowest, highest, binCount, distinctValues}
-use Rattle.model.specs.Counters.{CoverBin, listed, auto, Counter, valueBin, pointAt, valueBinAt, pointOf, autoCount, hasAuto, binCounters, valueCounters, autoCounters, transitionCounters, pointCounters, coverBins}
+use Rattle.model.specs.Counters.{CoverBin, listed, auto, Counter, valueBin, pointAt, valueBinAt, autoCount, hasAuto, binCounters, valueCounters, autoCounters, transitionCounters, pointCounters, coverBins}
 use Rattle.model.specs.Ranges.{noValue, firstValues, portionRanges, binRanges, rangeCount, coverRanges}
-use Rattle.model.proofs.Readers.{All, all-append}
-use Rattle.model.proofs.Runs.{length-upFrom}
+use Rattle.model.proofs.Readers.{All}
 use Rattle.model.proofs.WellFormed.{GoodBin, WellFormed}
 use Rattle.model.proofs.Exact.{first-exact, Divisible}
 use Rattle.model.proofs.TableExact.{point-at, divisible}
 use Rattle.model.proofs.Limits.{covers-append, covers-map, no-covers}
+use Rattle.model.proofs.Lists.{length-upFrom, map-map, map-numbers}
 use Rattle.arrays.specs.Flat.{covers, origin}
-use Rattle.values.proofs.FlagsExact.{map-append, map-map}
 use Rattle.covers.specs.Parts.{oneValue, valueParts, portionParts, parts, ownParts, partsIn, autoParts, originsIn}
-use Rattle.covers.proofs.Extra.{map-upFrom, map-same-number}
 use Rattle.covers.proofs.FormLaws.{portion-length}
 
 -- ---- the bins of a value bin, by number
@@ -41,10 +40,15 @@ unfolding parts valueParts portionParts upFrom
 parts-numbered q single rs = refl
 parts-numbered q perValue rs =
     ap (λ (n : ℕ). map (binRanges q perValue rs) (upFrom 0 n)) (length-map (firstValues q rs) oneValue)
-    ∙ map-upFrom oneValue noValue (firstValues q rs)
+    ∙ map-numbers (λ k. oneValue (getD (firstValues q rs) k noValue)) oneValue noValue (firstValues q rs) 0 (λ i h. ap (λ (k : ℕ). oneValue (getD (firstValues q rs) k noValue)) (zero-add i))
 parts-numbered q (fixed n) rs = ap (λ (m : ℕ). map (binRanges q (fixed n) rs) (upFrom 0 m)) (portion-length n rs 0 n)
 
 -- ---- the bins of some value bins, which are numbered from b on
+
+map-same-number : {A B : Type 0} (f : A → B) (g : ℕ → A) (b : B) → ((k : ℕ) → f (g k) ≡ b) → (i n : ℕ) → map f (map g (upFrom i n)) ≡ replicate n b
+unfolding upFrom
+map-same-number f g b h i zero = refl
+map-same-number f g b h i (suc n) = ap₂ _∷_ (h i) (map-same-number f g b h (suc i) n)
 
 numbered : ℕ → ℕ → ℕ → List ValueBin → List CoverBin
 numbered low p b [] = []
@@ -63,13 +67,6 @@ module _ (t : Table) (p : ℕ) where
   q : Point
   q = pointAt t p
 
-  Own : CoverBin → Type 0
-  Own c = pointOf t c ≡ p
-
-  own-row : (f : ℕ → CoverBin) → ((k : ℕ) → Own (f k)) → (ks : List ℕ) → All Own (map f ks)
-  own-row f h [] = tt
-  own-row f h (k ∷ ks) = (h k, own-row f h ks)
-
   abbrev At : ℕ → List ValueBin → Type 0
   At b vs = (i : ℕ) → i < length vs → getD vs i noValueBin ≡ valueBinAt t (b + i)
 
@@ -78,16 +75,6 @@ module _ (t : Table) (p : ℕ) where
 
   at-here : (b : ℕ) (v : ValueBin) (vs : List ValueBin) → At b (v ∷ vs) → v ≡ valueBinAt t b
   at-here b v vs h = h 0 (omega arith) ∙ ap (valueBinAt t) (let z : b + 0 ≡ b = omega arith in z)
-
-  numbered-own : (b : ℕ) (vs : List ValueBin) → At b vs → All Own (numbered (lowest q) p b vs)
-  unfolding numbered Own ownParts
-  numbered-own b [] h = tt
-  numbered-own b (v ∷ vs) h =
-      all-append Own (map (listed b) (upFrom 0 (length (ownParts (lowest q) p v)))) (numbered (lowest q) p (suc b) vs) (go (eqb (v .point) p) refl) (numbered-own (suc b) vs (at-next b v vs h))
-    where
-      go : (c : Bool) → eqb (v .point) p ≡ c → All Own (map (listed b) (upFrom 0 (length (cond (c && isCover (v .kind)) (parts (lowest q) (v .form) (v .ranges)) []))))
-      go true e = own-row (listed b) (λ k. ap (λ (x : ValueBin). x .point) (sym (at-here b v vs h)) ∙ eqb-true (v .point) p e) (upFrom 0 (length (cond (isCover (v .kind)) (parts (lowest q) (v .form) (v .ranges)) [])))
-      go false e = unfold upFrom in tt
 
   -- by the ranges of each
   numbered-parts : (b : ℕ) (vs : List ValueBin) → At b vs → map (coverRanges t) (numbered (lowest q) p b vs) ≡ partsIn (lowest q) p vs
@@ -187,16 +174,6 @@ module _ (t : Table) (p : ℕ) where
 
       whole : At 0 (t .valueBins)
       whole i k = ap (valueBinAt t) (let z : i ≡ 0 + i = omega arith in z)
-
-      pub own-covers : All (λ c. pointOf t c ≡ p) (covers t p)
-      unfolding Own autos
-      own-covers =
-          subst (All Own) (sym covers-numbered)
-          (all-append Own (numbered (lowest q) p 0 (t .valueBins)) (autos (hasAuto t p)) (numbered-own 0 (t .valueBins) whole) (go (hasAuto t p)))
-        where
-          go : (c : Bool) → All Own (autos c)
-          go true = own-row (auto p) (λ k. refl) (upFrom 0 (autoCount q))
-          go false = tt
 
       pub covers-ranges : map (coverRanges t) (covers t p)
           ≡ partsIn (lowest (pointAt t p)) p (t .valueBins) ++ autoParts (hasAuto t p) (lowest (pointAt t p)) (highest (pointAt t p)) (autoCount (pointAt t p))

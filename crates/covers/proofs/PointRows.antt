@@ -11,12 +11,11 @@ use lib.ListN.{length, getD, length-map}
 use Rattle.model.specs.Lists.{upFrom}
 use Rattle.model.specs.Table.{Table}
 use Rattle.model.specs.Counters.{CoverBin, noCoverBin}
-use Rattle.words.proofs.Laws.{none-left, one-left}
 use Rattle.arrays.specs.Put.{put}
 use Rattle.model.specs.Register.{pointTotal}
-use Rattle.model.proofs.Runs.{length-upFrom}
+use Rattle.model.proofs.Lists.{none-left, one-left, getD-map}
 use Rattle.arrays.specs.Flat.{covers, coverCounts}
-use Rattle.covers.proofs.Extra.{getD-map, getD-put-in, getD-put-below}
+use Rattle.arrays.proofs.PutLaws.{put-in, put-before}
 
 -- those of the first n points stand there
 abbrev pub Filled : (CoverBin → ℕ) → Table → ℕ → List ℕ → Type 0
@@ -33,7 +32,7 @@ module _ (f : CoverBin → ℕ) (t : Table) where
         before : p < n → getD b (256 * p + k) 0 ≡ f (getD (covers t p) k noCoverBin)
         before y =
             ap (λ (l : List ℕ). getD l (256 * p + k) 0) e
-            ∙ getD-put-below (256 * n) (map f (covers t n)) a (256 * p + k) 0 (omega (arith, few p h)) (omega arith) ∙ done p k y i
+            ∙ put-before (256 * n) (map f (covers t n)) a (256 * p + k) 0 (omega arith) (omega (arith, few p h)) ∙ done p k y i
 
         here : n ≤ p → getD b (256 * p + k) 0 ≡ f (getD (covers t p) k noCoverBin)
         here y =
@@ -41,7 +40,7 @@ module _ (f : CoverBin → ℕ) (t : Table) where
             let inside : k < length (covers t n) = rw same at i in
             let long = length-map (covers t n) f in
             ap₂ (λ (l : List ℕ) (q : ℕ). getD l (256 * q + k) 0) e same
-            ∙ getD-put-in (256 * n) (map f (covers t n)) a k 0 (omega arith) (omega (arith, few n (omega arith)))
+            ∙ put-in (256 * n) (map f (covers t n)) a k 0 (omega arith) (omega arith)
             ∙ getD-map f (covers t n) k noCoverBin 0 inside
             ∙ ap (λ (q : ℕ). f (getD (covers t q) k noCoverBin)) (sym same)
 
@@ -61,7 +60,3 @@ counts-end t p n h = ap (countsFrom t p) (none-left n p h)
 pub counts-start : (t : Table) → countsFrom t 0 (pointTotal t - 0) ≡ coverCounts t
 unfolding countsFrom coverCounts
 counts-start t = ap (countsFrom t 0) (let z : pointTotal t - 0 ≡ pointTotal t = omega arith in z)
-
-pub counts-length : (t : Table) → length (coverCounts t) ≡ pointTotal t
-unfolding coverCounts
-counts-length t = length-map (upFrom 0 (pointTotal t)) (λ q. length (covers t q)) ∙ length-upFrom 0 (pointTotal t)

@@ -1,4 +1,5 @@
 // The value bin that each cover bin of a point comes of: n value bins from bins on, their ranges from ranges on.
+use arrays::put_same_u16;
 use ranges::next::next_in;
 use values::points::auto_count;
 use values::points::has_auto;
@@ -7,7 +8,7 @@ use words::bytes::byte;
 use words::bytes::read2;
 ghost use mathlib.Core.Path.{_≡_};
 ghost use Prim.Native.Nat.{_+_, _≤_, _<_};
-ghost use lib.ListN.{length, replicate};
+ghost use lib.ListN.{length};
 ghost use Rattle.model.specs.Values.{lowest, highest};
 ghost use Rattle.model.specs.Counters.{autoCount};
 ghost use Rattle.model.specs.Format.{pointRecord};
@@ -67,20 +68,6 @@ fn own_count(t: &[u8], b: usize, r: usize, p: u8, low: u64) -> usize
     cover_count(t, b, r, low)
 }
 
-// n elements v.
-fn put_same(out: &mut [u16], at: usize, n: usize, v: u16) -> usize
-    requires { ⌜ at + n ≤ length (now out) ⌝ }
-    ensures { λ r. ⌜ (r ≡ at + n) × (now (out .exit) ≡ put at (replicate n v) (now (out .entry))) ⌝ }
-{
-    let e = at + n;
-    let mut i = at;
-    while i < e {
-        out[i] = v;
-        i += 1;
-    }
-    e
-}
-
 // Value bin after value bin.
 fn put_listed(
     out: &mut [u16],
@@ -101,7 +88,7 @@ fn put_listed(
     let mut i: usize = 0;
     while i < n {
         let m = own_count(t, b, r, p, low);
-        c = put_same(out, c, m, i as u16);
+        c = put_same_u16(out, c, m, i as u16);
         let k = read2(t, b + 6);
         b += 8;
         r += 17 * k as usize;
@@ -144,5 +131,5 @@ pub fn put_point_origins(
     let has = has_auto(t, bins, n, b, k, p);
     let m = auto_total(t, point, has);
     let e = put_listed(out, at, t, bins, ranges, n, p, low);
-    put_same(out, e, m, 65535)
+    put_same_u16(out, e, m, 65535)
 }

@@ -1,8 +1,8 @@
 -- For an accepted table the flags of a cross from its products' marks are the model's, and the elements by kind are those of its counters.
 -- Assumes nothing.
 use mathlib.Core.Path.{_≡_, refl, sym, ap, ap₂, _∙_}
-use mathlib.Core.Bool.{Bool, true, false, not, _&&_, _||_, cond}
-use mathlib.Core.List.{List, [], _∷_, _++_, map}
+use mathlib.Core.Bool.{Bool, true, false, not, _&&_, _||_, cond, and-true, and-false, and-comm}
+use mathlib.Core.List.{List, [], _∷_, _++_, map, map-append}
 use Prim.Native.Nat.{ℕ, zero, suc, _+_, _*_, _/_, _^_, _≤_, _<_}
 use native.Mathlib.Omega.{arith}
 use native.Mathlib.Nat.{pow-suc, div-one, div-div-eq-div-mul}
@@ -18,29 +18,15 @@ use Rattle.model.specs.Register.{pointTotal}
 use Rattle.model.specs.Format.{byte, guardFrom, CrossBinHead, accepted, tableOf}
 use Rattle.model.specs.Raw.{rows, crossBinsAt}
 use Rattle.model.proofs.Limits.{products-count}
-use Rattle.model.proofs.RunBits.{bits-at}
-use Rattle.values.proofs.FlagsExact.{map-append, map-map}
+use Rattle.model.proofs.RunBits.{bits-at, bits-and, bits-zero, bit-zero, bit-orAll}
+use Rattle.model.proofs.Lists.{map-map, any-cong, any-numbers, any-out, pair-map, pair-length}
+use Rattle.model.proofs.RawCrosses.{length-cross-bins}
 use Rattle.arrays.specs.Flat.{hitFlags, totalFlags, coverCounts, productHits, productMark, productMarks, crossPlace}
 use Rattle.crosses.specs.Flags.{gateOf, flagsOf, passes, placeOf, headsAt, maskOf, ownMark, ownMarks, isOdd, labelOf, binFlags, productFlag, productFlags, everyMark, crossFlags}
 use Rattle.crosses.specs.Labels.{binLabels, productsAt, crossLabels}
-use Rattle.crosses.proofs.Extra.{length-cross-bins, any-same, any-numbers, any-out, pair-map, length-pair, bits-and, bits-zero, bit-zero, bit-orAll}
 use Rattle.crosses.proofs.Places.{cross-at, products-at}
 
 -- ---- Booleans
-
-and-false : (a : Bool) → (a && false) ≡ false
-and-false true = refl
-and-false false = refl
-
-and-true : (a : Bool) → (a && true) ≡ a
-and-true true = refl
-and-true false = refl
-
-and-swap : (a b : Bool) → (a && b) ≡ (b && a)
-and-swap true true = refl
-and-swap true false = refl
-and-swap false true = refl
-and-swap false false = refl
 
 guarded : (a b c : Bool) → (a && (b && c)) ≡ ((b && (false || a)) && c)
 guarded true true c = refl
@@ -144,7 +130,7 @@ module _ (s : List ℕ) (ok : accepted s ≡ true) (c : ℕ) (inside : c < lengt
   length-flags w total hs ms eh em =
       let live = passes w total (guardFrom (byte s (cp + 5))) in
       length-append (binFlags w total live (ownMarks (maskOf (headsAt s bp n)) ms) (everyMark total ms) (headsAt s bp n)) _
-      ∙ ap₂ _+_ (flags-length w total live (ownMarks (maskOf (headsAt s bp n)) ms) (everyMark total ms) (headsAt s bp n)) (length-pair (productFlag live) hs ms (em ∙ sym eh) ∙ eh)
+      ∙ ap₂ _+_ (flags-length w total live (ownMarks (maskOf (headsAt s bp n)) ms) (everyMark total ms) (headsAt s bp n)) (pair-length (productFlag live) hs ms (omega (arith, em, eh)) ∙ eh)
       ∙ sym counters-length
 
   -- ---- the cross's bins by number
@@ -213,7 +199,7 @@ module _ (s : List ℕ) (ok : accepted s ≡ true) (c : ℕ) (inside : c < lengt
       ∙ ap (λ (x : ℕ). eqb x 0) (bits-and (sel cs) ex 0 L)
       ∙ bits-zero (λ l. sel cs l && ex l) 0 L
       ∙ ap not
-      (any-same (λ l. sel cs l && ex l) (λ l. ex l && sel cs l) (λ l. and-swap (sel cs l) (ex l)) (upFrom 0 L)
+      (any-cong (λ l. sel cs l && ex l) (λ l. ex l && sel cs l) (upFrom 0 L) (λ l. and-comm (sel cs l) (ex l))
       ∙ any-numbers (λ b. excludes (b .kind) && selects T (b .select) cs) noCrossBin (crossAt T c .bins))
 
   sel-at : (cs : List CoverBin) (i : ℕ) → i < n → bit i (bitsFrom (sel cs) 0 L) ≡ sel cs i
@@ -245,7 +231,7 @@ module _ (s : List ℕ) (ok : accepted s ≡ true) (c : ℕ) (inside : c < lengt
     marks-bit i k h e =
         ap (λ (ms : List ℕ). bit i (orAll ms)) (map-map (ownMark k) (productMark T c f) (λ cs. ownMark k (productMark T c f cs)) (λ cs. refl) (products T c))
         ∙ bit-orAll i (λ cs. ownMark k (productMark T c f cs)) (products T c)
-        ∙ any-same (λ cs. bit i (ownMark k (productMark T c f cs))) h e (products T c)
+        ∙ any-cong (λ cs. bit i (ownMark k (productMark T c f cs))) h (products T c) e
 
     product-one : (live : Bool) (cs : List CoverBin) → productFlag live (asBit (all f cs)) (productMark T c f cs) ≡ asBit ((live && all f cs) && not (selected T c cs))
     unfolding productMark
@@ -288,7 +274,7 @@ module _ (s : List ℕ) (ok : accepted s ≡ true) (c : ℕ) (inside : c < lengt
       on-illegal j h = unfold inTotal in (ap asBit (sym (bit-zero j)))
 
       on-product : (cs : List CoverBin) → asBit (inTotal T (product c cs)) ≡ asBit (all (hasValue T) cs && not (selected T c cs))
-      on-product cs = unfold inTotal in (ap asBit (and-swap (not (selected T c cs)) (all (hasValue T) cs)))
+      on-product cs = unfold inTotal in (ap asBit (and-comm (not (selected T c cs)) (all (hasValue T) cs)))
 
   hits-exact : (w : List ℕ) (m : Stretches) → hitFlags T w m (crossCounters T c) ≡ crossFlags s w false cp bp (productHits T c (coverHit T w)) (productMarks T c (coverHit T w))
   unfolding hitFlags crossFlags

@@ -16,12 +16,13 @@ use Rattle.model.specs.Table.{excludes}
 use Rattle.model.specs.Counters.{productOf}
 use Rattle.model.specs.Format.{byte, kindFrom, guardFrom, CrossBinHead, crossBinHead, tokensOf}
 use Rattle.model.specs.Raw.{tokenTotal}
-use Rattle.model.proofs.RawLaws.{length-rows}
+use Rattle.model.proofs.RawLaws.{length-rows, rows-turn, rows-start, rows-end}
+use Rattle.model.proofs.Lists.{one-left, taken-turn, pair-length}
+use Rattle.model.proofs.RunBits.{asBit-le}
 use Rattle.crosses.specs.Flags.{passes, headsAt, maskOf, ownMark, ownMarks, isOdd, labelOf, binFlags, productFlag, productFlags, everyMark, crossFlags}
 use Rattle.crosses.specs.Labels.{binLabels, countAt, productsAt, crossLabels}
 use Rattle.arrays.specs.Put.{put}
-use Rattle.arrays.proofs.PutLaws.{put-nil, put-cons, left-suc}
-use Rattle.crosses.proofs.Extra.{rows-turn, rows-start, rows-end, taken-turn, length-pair, asBit-le}
+use Rattle.arrays.proofs.PutLaws.{put-nil, put-cons}
 
 -- ---- one bin
 
@@ -116,7 +117,7 @@ products-turn live n i hs ms h k l = ap₂ (productFlags live) (taken-turn n i h
 pub length-products : (live : Bool) (n : ℕ) (hs ms : List ℕ) → n ≤ length hs → n ≤ length ms → length (productFlags live (take n hs) (take n ms)) ≡ n
 unfolding productFlags
 length-products live n hs ms h k =
-    length-pair (productFlag live) (take n hs) (take n ms) (length-take-le n ms k ∙ sym (length-take-le n hs h)) ∙ length-take-le n hs h
+    pair-length (productFlag live) (take n hs) (take n ms) (omega (arith, length-take-le n ms k, length-take-le n hs h)) ∙ length-take-le n hs h
 
 pub products-end : (live : Bool) (n i : ℕ) (hs ms : List ℕ) → n ≤ i → productFlags live (drop i (take n hs)) (drop i (take n ms)) ≡ []
 unfolding productFlags pairUp
@@ -172,7 +173,7 @@ module _ (s counts : List ℕ) (cp n : ℕ) where
   unfolding productOf upFrom
   product-turn i k p product h ep ek =
       ap (product *_)
-      (ap (λ (m : ℕ). productOf (countAt counts) (pointsFrom s cp i m)) (left-suc n i h)
+      (ap (λ (m : ℕ). productOf (countAt counts) (pointsFrom s cp i m)) (one-left n i h)
       ∙ ap₂ (λ (x j : ℕ). x * productOf (countAt counts) (pointsFrom s cp j (n - (i + 1)))) (sym (ek ∙ ap (countAt counts) ep)) (sym (add-one i)))
       ∙ sym (mul-assoc product k (productFrom (i + 1)))
 

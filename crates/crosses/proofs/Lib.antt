@@ -1,4 +1,3 @@
-pub mod Extra
 pub mod Laws
 pub mod Places
 pub mod FlagsExact

@@ -2,7 +2,7 @@
 -- Assumes nothing.
 use mathlib.Core.Path.{_≡_, refl, sym, ap, _∙_}
 use mathlib.Core.Bool.{Bool, true, false}
-use mathlib.Core.List.{List, [], _++_, map}
+use mathlib.Core.List.{List, [], _++_, map, map-append}
 use Prim.Native.Nat.{ℕ, _+_, _-_, _≤_, _<_}
 use native.Mathlib.Omega.{arith}
 use native.Mathlib.Numerals.{add-one}
@@ -13,12 +13,12 @@ use Rattle.model.specs.Counters.{CoverBin, Counter, crossCounters, products, pr
 use Rattle.model.specs.Sampling.{Stretches, hits}
 use Rattle.model.specs.Figures.{inTotal}
 use Rattle.model.proofs.Limits.{products-count}
-use Rattle.values.proofs.FlagsExact.{map-append}
+use Rattle.model.proofs.Lists.{one-left}
 use Rattle.arrays.specs.Put.{put}
 use Rattle.arrays.specs.Flat.{hitFlags, totalFlags, productHits, productMark, productMarks, allCrossCounters}
-use Rattle.arrays.proofs.PutLaws.{left-suc, part-put, put-nil}
+use Rattle.arrays.proofs.PutLaws.{part-put, put-nil}
+use Rattle.arrays.proofs.Written.{put-turn}
 use Rattle.crosses.specs.Flags.{flagsOf}
-use Rattle.crosses.proofs.Extra.{written-turn}
 
 -- ---- one cross
 
@@ -56,7 +56,7 @@ module _ (t : Table) where
 
   pub from-turn : (n c : ℕ) → c < n → countersFrom c (n - c) ≡ crossCounters t c ++ countersFrom (c + 1) (n - (c + 1))
   unfolding concatOf upFrom
-  from-turn n c h = ap (countersFrom c) (left-suc n c h) ∙ ap (λ (d : ℕ). crossCounters t c ++ countersFrom d (n - (c + 1))) (sym (add-one c))
+  from-turn n c h = ap (countersFrom c) (one-left n c h) ∙ ap (λ (d : ℕ). crossCounters t c ++ countersFrom d (n - (c + 1))) (sym (add-one c))
 
   pub from-end : (n c : ℕ) → n ≤ c → countersFrom c (n - c) ≡ []
   unfolding concatOf upFrom
@@ -68,7 +68,7 @@ module _ (t : Table) where
   module _ (n c at at′ : ℕ) (l l′ : List ℕ) (h : c < n) (fit : at + length (countersFrom c (n - c)) ≤ length l) (e : at′ ≡ at + length (crossCounters t c)) where
     pub map-turn : (g : Counter → ℕ) → l′ ≡ put at (map g (crossCounters t c)) l → put at′ (map g (countersFrom (c + 1) (n - (c + 1)))) l′ ≡ put at (map g (countersFrom c (n - c))) l
     map-turn g w =
-        written-turn at at′ (map g (crossCounters t c)) (map g (countersFrom (c + 1) (n - (c + 1)))) (map g (countersFrom c (n - c))) l l′
+        put-turn at at′ (map g (countersFrom c (n - c))) (map g (crossCounters t c)) (map g (countersFrom (c + 1) (n - (c + 1)))) l l′
         (ap (map g) (from-turn n c h) ∙ map-append g (crossCounters t c) (countersFrom (c + 1) (n - (c + 1))))
         (omega (arith, length-map (countersFrom c (n - c)) g)) (omega (arith, length-map (crossCounters t c) g)) w .1
 

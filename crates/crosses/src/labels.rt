@@ -1,5 +1,6 @@
 // Elements that depend only on what a counter of a cross is, and on its cross: kinds and items.
 use crate::bins::put_label;
+use arrays::element;
 use arrays::put_same;
 use layout::layout_of;
 use words::bytes::byte;
@@ -14,13 +15,7 @@ ghost use Rattle.model.specs.Format.{byte, accepted, tableOf};
 ghost use Rattle.arrays.specs.Put.{put};
 ghost use Rattle.arrays.specs.Flat.{coverCounts, kindsOf, itemsOf, allCrossCounters};
 ghost use Rattle.crosses.specs.Flags.{headsAt};
-ghost use Rattle.crosses.specs.Labels.{binLabels, countAt, productsAt, crossLabels, shift, Labels};
-
-fn count_at(counts: &[u16], p: usize) -> u16
-    ensures { λ r. ⌜ r ≡ countAt (now (counts .entry)) p ⌝ }
-{
-    if p < counts.len() { counts[p] } else { 0 }
-}
+ghost use Rattle.crosses.specs.Labels.{binLabels, productsAt, crossLabels, shift, Labels};
 
 // How many products the cross at cp has.
 fn product_count(t: &[u8], cp: usize, counts: &[u16]) -> usize
@@ -32,7 +27,7 @@ fn product_count(t: &[u8], cp: usize, counts: &[u16]) -> usize
     let mut i = 0;
     while i < n {
         let p = byte(t, cp + 1 + i);
-        let k = count_at(counts, p as usize);
+        let k = element(counts, p as usize);
         product = product * (k as usize);
         i += 1;
     }

@@ -61,12 +61,6 @@ bar-few ignore = omega arith
 bar-few illegal = omega arith
 bar-few default = omega arith
 
-pub transition-few : (k : Kind) → transitionsOf k ≤ 1
-transition-few cover = omega arith
-transition-few ignore = omega arith
-transition-few illegal = omega arith
-transition-few default = omega arith
-
 pub cover-few : (k : Kind) → coversOf k 1 ≤ 1
 cover-few cover = omega arith
 cover-few ignore = omega arith

@@ -21,6 +21,7 @@ use Rattle.model.proofs.Exact.{SpanOf, Divisible}
 use Rattle.model.proofs.TableExact.{point-at, divisible}
 use Rattle.model.proofs.Access.{points-access, bins-access}
 use Rattle.model.proofs.Measure.{sum-add}
+use Rattle.model.proofs.RawValues.{length-bins}
 use Rattle.ranges.specs.Types.{AllWide}
 use Rattle.ranges.proofs.Searches.{bins-length}
 use Rattle.layout.specs.Places.{layoutOf, Small}
@@ -75,7 +76,7 @@ module _ (s : List ℕ) where
     few-bins = omega (arith, bins-access s (rawTable s) (length s) (read-layout s known) .0 .high, number)
       where
         number : length (rawTable s .valueBins) ≡ recordCount s 1
-        number = unfold rawTable in (bins-length s (recordsPlace s 1) (recordsPlace s 2) (recordCount s 1))
+        number = unfold rawTable in (length-bins s (recordsPlace s 1) (recordsPlace s 2) (recordCount s 1))
 
     pub all-countable : all (countable (recordCount s 0)) (binsAt s (recordsPlace s 1) (recordsPlace s 2) (recordCount s 1)) ≡ true
     unfolding rawTable

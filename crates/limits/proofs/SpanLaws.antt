@@ -16,7 +16,7 @@ use Rattle.model.specs.Format.{byte, u64, rangeRecord}
 use Rattle.model.specs.Ranges.{noValue, nextInRange, nextIn, ascending, size, sizes}
 use Rattle.model.specs.Raw.{rows, rangesAt}
 use Rattle.model.proofs.Booleans.{false-true, and-left, and-right}
-use Rattle.model.proofs.NextValue.{next-ge}
+use Rattle.model.proofs.NextValue.{next-ge, next-below}
 use Rattle.words.proofs.Laws.{none-left, one-left}
 use Rattle.ranges.specs.Types.{valueAt}
 use Rattle.ranges.proofs.NextLaws.{next-below}

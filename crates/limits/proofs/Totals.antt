@@ -2,7 +2,7 @@
 -- Assumes nothing.
 use mathlib.Core.Path.{_≡_, refl, sym, ap, ap₂, _∙_, subst, fun-ext}
 use mathlib.Core.List.{List}
-use Prim.Native.Nat.{ℕ, zero, suc, _+_, _≤_, _<_}
+use Prim.Native.Nat.{ℕ, _+_}
 use native.Mathlib.Omega.{arith}
 use mathlib.Core.Bool.{Bool, true, _&&_}
 use lib.Dec.{leb}
@@ -23,6 +23,7 @@ use Rattle.limits.specs.Walks.{Readable, walkSum, after, isByte, crossKi
 use Rattle.limits.specs.Bins.{here, countersIn, pointFits, crossProducts, crossFits}
 use Rattle.limits.specs.Tallies.{Counted, CountersOf}
 use Rattle.model.proofs.Measure.{illegalsOf, crossSum, sum-add, sum-same, illegal-total, run-total, counter-total}
+use Rattle.model.proofs.Lists.{all-same}
 use Rattle.limits.proofs.RawSums.{coversIn, cover-byte, illegal-byte, bins-kinds, transitions-kinds, crosses-kinds, transitions-mosts}
 use Rattle.limits.proofs.ReadLaws.{read-well, bin-points, transition-points}
 use Rattle.limits.proofs.PointLaws.{points-length}
@@ -46,11 +47,6 @@ fitsAt t p = leb (countersAt t p) 256
 limits-crosses : (t : Table) → limitsIn t ≡ (all (fitsAt t) (upFrom 0 (length (t .points))) && all (sizeFits t) (t .crosses))
 unfolding limitsIn
 limits-crosses t = ap (all (fitsAt t) (upFrom 0 (length (t .points))) &&_) (all-numbers (sizeFits t) noCross (t .crosses))
-
-all-same : (f g : ℕ → Bool) (i n : ℕ) → ((j : ℕ) → i ≤ j → j < i + n → f j ≡ g j) → all f (upFrom i n) ≡ all g (upFrom i n)
-unfolding all upFrom
-all-same f g i zero h = refl
-all-same f g i (suc n) h = ap₂ _&&_ (h i (omega arith) (omega arith)) (all-same f g (suc i) n (λ j lo hi. h j (omega arith) (omega arith)))
 
 crosses-inside : (s : List ℕ) → Readable s → All (λ x. InPoints (recordCount s 0) (x .points)) (crossesAt s (recordsPlace s 7) (recordsPlace s 8) (recordsPlace s 9) (recordCount s 7))
 unfolding rawTable

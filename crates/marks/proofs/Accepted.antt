@@ -2,8 +2,8 @@
 -- Assumes nothing.
 use mathlib.Core.Path.{_≡_, refl, sym, ap, ap₂, _∙_, subst}
 use mathlib.Core.Bool.{Bool, true, false, not, _&&_, _||_, cond}
-use mathlib.Core.List.{List, [], _∷_, _++_, map}
-use Prim.Native.Nat.{ℕ, zero, suc, _+_, _-_, _*_, _≤_, _<_}
+use mathlib.Core.List.{List, [], _∷_, map}
+use Prim.Native.Nat.{ℕ, zero, suc, _+_, _*_, _≤_, _<_}
 use native.Mathlib.Omega.{arith}
 use lib.Dec.{leb, ltb, eqb}
 use lib.ListN.{length, getD}
@@ -12,67 +12,35 @@ use Rattle.model.specs.Lists.{upFrom}
 use Rattle.model.specs.Table.{Point, CrossBin, Cross, Table, noPoint, noCross}
 use Rattle.model.specs.Values.{fieldValue, lowest, highest}
 use Rattle.model.specs.Counters.{pointAt, crossAt}
-use Rattle.model.specs.Format.{Test, BinHead, got, each, times, byte, u16, u64, field, unused, valueTests, crossPoints, crossPointTest, crossTests, crossHead, binHead, coverBinOf, CrossParts, CrossBinHead, crossBinTests, crossBinHead, readCross, readCrossBin, readCrossBins, tokenRules, tokenTests, tokenRecord, readToken, readSelect, readSelects, readBinSection, readRangeSection, readTransitionBins, readCrossSection, readCrossBinSection, readTokenSection, readCrosses, readTable, decode, decoded, accepted, tableOf}
-use Rattle.model.specs.Raw.{countPlace, recordCount, recordsPlace, rows, crossBinHeadsAt, crossHeadsAt, crossesAt, rawTable}
+use Rattle.model.specs.Format.{Test, BinHead, got, each, byte, u16, u64, field, unused, valueTests, crossPoints, crossPointTest, crossTests, crossHead, binHead, coverBinOf, CrossParts, CrossBinHead, crossBinTests, crossBinHead, readCross, readCrossBin, readCrossBins, tokenRules, tokenTests, tokenRecord, readToken, readSelect, readSelects, readBinSection, readRangeSection, readTransitionBins, readCrossSection, readCrossBinSection, readTokenSection, readCrosses, readTable, decode, decoded, accepted, tableOf}
+use Rattle.model.specs.Raw.{countPlace, recordCount, recordsPlace, rows, crossBinHeadsAt, crossHeadsAt}
 use Rattle.model.specs.Raw as raw
 use Rattle.model.specs.Register.{pointTotal}
 use Rattle.model.proofs.Booleans.{false-true, and-left, and-right}
-use Rattle.model.proofs.Readers.{bind-elim, got-record, AllPass, all-at, Consed, consed, got-cons}
+use Rattle.model.proofs.Readers.{bind-elim, got-record, AllPass, all-at, Consed, consed, got-cons, pass-right}
 use Rattle.model.proofs.Access.{records, section-count}
 use Rattle.model.proofs.AccessCrosses.{noToken}
 use Rattle.model.proofs.Sections.{acceptance, accepted-decodes}
 use Rattle.model.proofs.WellFormed.{GoodPoint, InPoints, well-formed}
 use Rattle.model.proofs.Exact.{type-bound}
 use Rattle.model.proofs.TableExact.{point-at}
-use Rattle.model.proofs.RawLaws.{Says, length-rows, says-bind, says-times, says-got}
-use Rattle.model.proofs.RawCrosses.{select-of, cross-of, crosses-raw, cross-bins-raw, crossBinsFrom, tokensFrom}
+use Rattle.model.proofs.RawLaws.{length-rows}
+use Rattle.model.proofs.RawCrosses.{select-of, cross-of, crosses-raw, cross-bins-raw, crossBinsFrom, tokensFrom, bins-of}
 use Rattle.model.proofs.RawExact.{next-place, points-placed, bins-placed, ranges-placed, transitions-placed, raw-exact}
+use Rattle.model.proofs.Lists.{length-row, getD-row}
 use Rattle.arrays.specs.Flat.{CrossPlace, nextPlace, crossPlace}
+use Rattle.arrays.proofs.CrossPlaces.{placeFrom, place-is, cross-inside, cross-raw}
 use Rattle.selects.specs.Single.{BinsSingle, CrossesSingle}
 use Rattle.selects.proofs.Accepted.{accepted-single}
 use Rattle.marks.specs.Tokens.{tokenPoint, Legal, TokensLegal}
 use Rattle.marks.specs.Bins.{BinsLegal}
-use Rattle.marks.proofs.Extra.{length-numbers, getD-numbers}
 
 -- ---- places, from the first cross on
-
-unfoldable placeFrom : List ℕ → CrossPlace → ℕ → CrossPlace
-placeFrom s a zero = a
-placeFrom s a (suc i) = placeFrom s (nextPlace s a) i
-
-place-last : (s : List ℕ) (a : CrossPlace) (i : ℕ) → nextPlace s (placeFrom s a i) ≡ placeFrom s (nextPlace s a) i
-unfolding placeFrom
-place-last s a zero = refl
-place-last s a (suc i) = place-last s (nextPlace s a) i
-
-abbrev start : List ℕ → CrossPlace
-start s = record { cross = recordsPlace s 7; bins = recordsPlace s 8; tokens = recordsPlace s 9 }
-
-place-is : (s : List ℕ) (c : ℕ) → crossPlace s c ≡ placeFrom s (start s) c
-unfolding crossPlace placeFrom
-place-is s zero = refl
-place-is s (suc c) = ap (nextPlace s) (place-is s c) ∙ place-last s (start s) c
 
 place-cross : (s : List ℕ) (a : CrossPlace) (i : ℕ) → placeFrom s a i .cross ≡ a .cross + i * 13
 unfolding placeFrom
 place-cross s a zero = omega arith
 place-cross s a (suc i) = place-cross s (nextPlace s a) i ∙ omega arith
-
--- ---- the cross that the bytes say
-
-length-crosses : (s : List ℕ) (n c b k : ℕ) → length (crossesAt s c b k n) ≡ n
-unfolding crossesAt
-length-crosses s zero c b k = refl
-length-crosses s (suc n) c b k = ap suc (length-crosses s n _ _ _)
-
-abbrev rawAt : List ℕ → CrossPlace → Cross
-rawAt s a = raw.crossAt s (a .cross) (a .bins) (a .tokens)
-
-crosses-at : (s : List ℕ) (n : ℕ) (a : CrossPlace) (i : ℕ) → i < n → getD (crossesAt s (a .cross) (a .bins) (a .tokens) n) i noCross ≡ rawAt s (placeFrom s a i)
-unfolding crossesAt placeFrom
-crosses-at s zero a i h = absurd (omega arith)
-crosses-at s (suc n) a zero h = refl
-crosses-at s (suc n) a (suc i) h = crosses-at s n (nextPlace s a) i (omega arith)
 
 single-at : (s : List ℕ) (n : ℕ) (a : CrossPlace) (i : ℕ) → i < n → CrossesSingle s (a .cross) (a .bins) (a .tokens) n → (let p = placeFrom s a i in BinsSingle s (p .bins) (p .tokens) (byte s (p .cross + 12)))
 unfolding CrossesSingle placeFrom
@@ -128,11 +96,11 @@ module _ (s : List ℕ) (ps : List Point) (bins : List BinHead) (good : (p : ℕ
       let points = crossPoints s c in
       let q = getD points (byte s (at + 1)) 0 in
       let names = coverBinOf bins q (u16 s (at + 2)) in
-      let n : length points ≡ byte s c = length-numbers (λ i. byte s (c + 1 + i)) 0 (byte s c) in
+      let n : length points ≡ byte s c = length-row (λ i. byte s (c + 1 + i)) 0 (byte s c) in
       let g : ℕ → ℕ = λ i. byte s (c + 1 + i) in
       let position = position-in (length points) (getD ps q noPoint) (byte s at) (byte s (at + 1)) (u16 s (at + 2)) (u64 s (at + 4)) (u64 s (at + 12)) names at h (omega arith) in
       let values = values-in (length points) (getD ps q noPoint) (good q) (byte s at) (byte s (at + 1)) (u16 s (at + 2)) (u64 s (at + 4)) (u64 s (at + 12)) names at h in
-      let place : q ≡ tokenPoint s c at = getD-numbers g 0 (byte s c) (byte s (at + 1)) 0 (omega arith) ∙ ap g (let z : 0 + byte s (at + 1) ≡ byte s (at + 1) = omega arith in z) in
+      let place : q ≡ tokenPoint s c at = getD-row g 0 (byte s c) (byte s (at + 1)) 0 (omega arith) ∙ ap g (let z : 0 + byte s (at + 1) ≡ byte s (at + 1) = omega arith in z) in
       let here : getD ps q noPoint ≡ pointAt (tableOf s) (tokenPoint s c at) = same q ∙ ap (pointAt (tableOf s)) place in
       record {
         position = omega arith;
@@ -206,13 +174,6 @@ module _ (s : List ℕ) (ps : List Point) (bins : List BinHead) where
 
 -- its bins
 module _ (s : List ℕ) where
-  bins-of : (c at : ℕ) → at ≤ length s → Says (readCrossBins s (crossHead s c) at) (record { head = crossHead s c; bins = crossBinHeadsAt s c at (byte s (c + 12)) }) (at + 3 * byte s (c + 12)) (length s)
-  unfolding readCrossBins readCrossBin
-  bins-of c at h =
-      let n = byte s (c + 12) in
-      says-bind (times n (readCrossBin s (crossPoints s c))) _ at (crossBinHeadsAt s c at n) (at + 3 * n) _ _ (length s)
-      (says-times s 3 (crossBinTests s) (crossBinHead s (crossPoints s c)) n at h) (λ l. says-got _ (at + 3 * n) (length s) l)
-
   record BinsRead (a : CrossPlace) : Type 0 where
     room : a .bins ≤ length s
     parts : CrossParts CrossBinHead
@@ -230,7 +191,7 @@ module _ (s : List ℕ) where
           → BinsRead (placeFrom s a i)
       go zero h (consed x next others e₁ e₂ z) ih = record { room = room; parts = x; next = next; read = e₁ }
       go (suc i) h (consed x next others e₁ e₂ z) ih =
-          let r = bins-of (a .cross) (a .bins) room x next e₁ in
+          let r = bins-of s (a .cross) (a .bins) room x next e₁ in
           ih i (omega arith) (r .2) others end (ap (each (readCrossBins s) (rows (crossHead s) 13 (a .cross + 13) n)) (sym (r .1)) ∙ e₂)
 
   few-tokens : (c b : ℕ) (x : CrossParts CrossBinHead) (next : ℕ) → readCrossBins s (crossHead s c) b ≡ got x next → (j : ℕ) → j < byte s (c + 12) → byte s (b + j * 3 + 2) ≤ 32
@@ -240,11 +201,6 @@ module _ (s : List ℕ) where
       let r = records s 3 (crossBinTests s) (crossBinHead s (crossPoints s c)) (crossBinHead s [] 0) (byte s (c + 12)) b bs end e₁ in
       let n = byte s (b + j * 3 + 2) in
       leb-true n 32 (and-right (leb 1 n) (leb n 32) (r .2 .record-at j (omega (arith, r .0)) .passed .1 .1 .0))
-
--- its record
-pass-right : (xs ys : List Test) → AllPass (xs ++ ys) → AllPass ys
-pass-right [] ys h = h
-pass-right (x ∷ xs) ys h = pass-right xs ys (h .1)
 
 record HeadRead (s : List ℕ) (c : ℕ) : Type 0 where
   near : c ≤ length s
@@ -317,8 +273,8 @@ all-in n (x ∷ xs) h (suc i) k = all-in n xs (h .1) i (omega arith)
 placed : ℕ → ℕ → ℕ → CrossPlace
 placed c b k = record { cross = c; bins = b; tokens = k }
 
-start-is : (s : List ℕ) → placed (countPlace s 7 + 2) (crossBinsFrom s (countPlace s 7) + 2) (tokensFrom s (countPlace s 7) + 2) ≡ start s
-unfolding recordsPlace placed
+start-is : (s : List ℕ) → placed (countPlace s 7 + 2) (crossBinsFrom s (countPlace s 7) + 2) (tokensFrom s (countPlace s 7) + 2) ≡ crossPlace s 0
+unfolding recordsPlace placed crossPlace
 start-is s =
     let b : crossBinsFrom s (countPlace s 7) ≡ countPlace s 8 = next-place s 7 13 refl in
     let k : tokensFrom s (countPlace s 7) ≡ countPlace s 9 = ap (λ (x : ℕ). x + 2 + 3 * u16 s x) b ∙ next-place s 8 3 refl in
@@ -326,23 +282,13 @@ start-is s =
 
 -- a cross of the table t, which was decoded
 module _ (s : List ℕ) (t : Table) (e : decode s ≡ decoded t) (c : ℕ) (h : c < length (t .crosses)) where
-  raw-crosses : t .crosses ≡ crossesAt s (recordsPlace s 7) (recordsPlace s 8) (recordsPlace s 9) (recordCount s 7)
-  unfolding rawTable
-  raw-crosses = ap (λ (u : Table). u .crosses) (raw-exact s t e)
-
-  inside : c < recordCount s 7
-  inside = omega (arith, ap length raw-crosses, length-crosses s (recordCount s 7) (recordsPlace s 7) (recordsPlace s 8) (recordsPlace s 9))
-
-  said-by : crossAt t c ≡ rawAt s (crossPlace s c)
-  said-by = ap (λ (cs : List Cross). getD cs c noCross) raw-crosses ∙ crosses-at s (recordCount s 7) (start s) c inside ∙ ap (rawAt s) (sym (place-is s c))
-
   points-in : (i : ℕ) → i < byte s (crossPlace s c .cross) → byte s (crossPlace s c .cross + 1 + i) < length (t .points)
   points-in i k =
       let at = crossPlace s c .cross in
       let g : ℕ → ℕ = λ i. byte s (at + 1 + i) in
-      let mine = subst (λ (x : Cross). InPoints (length (t .points)) (x .points)) said-by (all-at (λ x. InPoints (length (t .points)) (x .points)) noCross tt (t .crosses) (well-formed s t e .crosses) c) in
+      let mine = subst (λ (x : Cross). InPoints (length (t .points)) (x .points)) (cross-raw s t e c h) (all-at (λ x. InPoints (length (t .points)) (x .points)) noCross tt (t .crosses) (well-formed s t e .crosses) c) in
       subst (λ (x : ℕ). byte s (at + 1 + x) < length (t .points)) (let z : 0 + i ≡ i = omega arith in z)
-      (subst (λ (x : ℕ). x < length (t .points)) (getD-numbers g 0 (byte s at) i 0 k) (all-in (length (t .points)) (crossPoints s at) mine i (omega (arith, length-numbers g 0 (byte s at)))))
+      (subst (λ (x : ℕ). x < length (t .points)) (getD-row g 0 (byte s at) i 0 k) (all-in (length (t .points)) (crossPoints s at) mine i (omega (arith, length-row g 0 (byte s at)))))
 
   record Known : Type 0 where
     head : HeadRead s (crossPlace s c .cross)
@@ -367,7 +313,7 @@ module _ (s : List ℕ) (t : Table) (e : decode s ≡ decoded t) (c : ℕ) (h : 
       let same : t .points ≡ ps = ap (λ (u : Table). u .points) (raw-exact s t e) ∙ sym (a₁ .0) in
       let good : (p : ℕ) → GoodPoint (getD ps p noPoint) = λ p. subst (λ (x : List Point). GoodPoint (getD x p noPoint)) same (point-at t (well-formed s t e) p) in
       let points-same : (p : ℕ) → getD ps p noPoint ≡ pointAt (tableOf s) p = λ p. ap (λ (x : List Point). getD x p noPoint) (sym same ∙ ap (λ (u : Table). u .points) own) in
-      let there = found s ps hs (countPlace s 7) cs n₅ (ap (readCrosses s ps hs) (sym (a₄ .1)) ∙ e₅) c inside in
+      let there = found s ps hs (countPlace s 7) cs n₅ (ap (readCrosses s ps hs) (sym (a₄ .1)) ∙ e₅) c (cross-inside s t e c h) in
       let here : Found s ps hs (crossPlace s c) = subst (Found s ps hs) (ap (λ (x : CrossPlace). placeFrom s x c) (start-is s) ∙ sym (place-is s c)) there in
       let a = crossPlace s c in
       record {
@@ -378,14 +324,15 @@ module _ (s : List ℕ) (t : Table) (e : decode s ≡ decoded t) (c : ℕ) (h : 
       }
 
 pub cross-good : (s : List ℕ) → accepted s ≡ true → (c : ℕ) → c < length (tableOf s .crosses) → CrossGood s c (crossPlace s c)
+unfolding crossPlace
 cross-good s ok c h =
     let t = tableOf s in
     let e = accepted-decodes s ok in
     let k = known s t e c h refl in
     let short = acceptance s t e .short in
-    let one = single-at s (recordCount s 7) (start s) c (inside s t e c h) (accepted-single s t e) in
+    let one = single-at s (recordCount s 7) (crossPlace s 0) c (cross-inside s t e c h) (accepted-single s t e) in
     record {
-      said = said-by s t e c h;
+      said = cross-raw s t e c h;
       near = (omega (arith, k .head .near), omega (arith, k .room .0), omega (arith, k .room .1));
       some = k .head .some;
       four = k .head .four;

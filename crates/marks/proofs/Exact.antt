@@ -1,9 +1,9 @@
 -- Over the bytes of an accepted table, the hits and the marks are those of the table's products.
 -- Assumes nothing.
 use mathlib.Core.Path.{_≡_, refl, sym, ap, ap₂, _∙_, subst}
-use mathlib.Core.Bool.{Bool, true, false, _&&_, cond}
+use mathlib.Core.Bool.{Bool, true, _&&_, cond}
 use mathlib.Core.List.{List, [], _∷_, map}
-use Prim.Native.Nat.{ℕ, zero, suc, _+_, _-_, _*_, _≤_, _<_}
+use Prim.Native.Nat.{ℕ, zero, suc, _+_, _*_, _≤_, _<_}
 use native.Mathlib.Omega.{arith}
 use lib.Dec.{eqb, leb}
 use lib.ListN.{length, getD, take, replicate, length-map, length-replicate, getD-replicate}
@@ -19,13 +19,16 @@ use Rattle.model.specs.Register.{pointTotal}
 use Rattle.model.proofs.Booleans.{and-right}
 use Rattle.model.proofs.Sections.{acceptance, accepted-decodes}
 use Rattle.model.proofs.Limits.{all-from, products-count}
+use Rattle.model.proofs.Lists.{length-row, getD-row, map-numbers}
+use Rattle.model.proofs.RunBits.{asBit-eqb, bits-move}
 use Rattle.arrays.specs.Put.{put}
 use Rattle.arrays.specs.Flat.{covers, coverCounts, Tells, productHits, productMark, productMarks}
+use Rattle.arrays.proofs.PutLaws.{put-first, put-after}
+use Rattle.arrays.proofs.Written.{put-numbers}
 use Rattle.selects.specs.Products.{many, digits, pick}
 use Rattle.selects.proofs.Tuples.{many-products, tuple-at, length-digits}
 use Rattle.marks.specs.Parts.{sizeAt, sizesAt, partsAt, gatesOpen, hitBit, hitsFrom}
 use Rattle.marks.specs.Bins.{bitsOf, markOf, Added, Below, Says, StandsAtPlace}
-use Rattle.marks.proofs.Extra.{length-numbers, getD-numbers, numbers-map, put-first, put-after, put-numbers}
 use Rattle.marks.proofs.Adding.{up-in, up-out}
 use Rattle.marks.proofs.Selected.{digit-small, length-parts, size-is}
 use Rattle.marks.proofs.Accepted.{CrossGood, cross-good}
@@ -55,15 +58,11 @@ module _ (t : Table) (s : List ℕ) (c : ℕ) (four : byte s c ≤ 4) (points : 
       ∙ size-four s c counts i (omega arith)
       ∙ sym (getD-take (pointTotal t) counts p 0 (points i k))
       ∙ ap (λ (x : List ℕ). getD x p 0) e
-      ∙ getD-numbers g 0 (pointTotal t) p 0 (points i k)
+      ∙ getD-row g 0 (pointTotal t) p 0 (points i k)
       ∙ ap g (let z : 0 + p ≡ p = omega arith in z)
       ∙ sym (size-is t s c i k))
 
 -- ---- the gates of a product
-
-bit-true : (b : Bool) → eqb (asBit b) 1 ≡ b
-bit-true true = refl
-bit-true false = refl
 
 module _ (t : Table) (s gate : List ℕ) (f : CoverBin → Bool) (tells : Tells f t gate) (c : ℕ) where
   abbrev point : ℕ → ℕ
@@ -81,7 +80,7 @@ module _ (t : Table) (s gate : List ℕ) (f : CoverBin → Bool) (tells : Tells 
       let in-part : d < length (covers t (point i)) = subst (λ (x : ℕ). d < length (covers t (point x))) z (small 0 (omega arith)) in
       let shift : (j : ℕ) → i + suc j ≡ suc i + j = λ j. omega arith in
       ap₂ _&&_
-      (ap (λ (x : ℕ). eqb x 1) (tells (point i) d in-table in-part) ∙ bit-true (f (getD (covers t (point i)) d noCoverBin)))
+      (ap (λ (x : ℕ). eqb x 1) (tells (point i) d in-table in-part) ∙ asBit-eqb (f (getD (covers t (point i)) d noCoverBin)))
       (ap (λ (x : ℕ). gatesOpen s gate x ds) (let y : c + 1 + i + 1 ≡ c + 1 + suc i = omega arith in y)
       ∙ open-all n (suc i) ds (omega arith)
       (λ j h. subst (λ (x : ℕ). point x < pointTotal t) (shift j) (ps (suc j) (omega arith)))
@@ -106,11 +105,6 @@ module _ (t : Table) (s gate : List ℕ) (f : CoverBin → Bool) (tells : Tells 
 
 -- ---- the bits of a product
 
-bits-shift : (f : ℕ → Bool) (n i : ℕ) → bitsFrom f (suc i) n ≡ bitsFrom (λ i. f (suc i)) i n
-unfolding bitsFrom
-bits-shift f zero i = refl
-bits-shift f (suc n) i = ap (λ (x : ℕ). x * 2 + asBit (f (suc i))) (bits-shift f n (suc i))
-
 bits-exact : (t : Table) (s : List ℕ) (cs : List CoverBin) (n b k : ℕ)
     → bitsOf t s b k n cs ≡ bitsFrom (λ i. selects t (getD (crossBinsAt s b k n) i noCrossBin .select) cs) 0 (length (crossBinsAt s b k n))
 unfolding bitsOf bitsFrom crossBinsAt
@@ -120,7 +114,7 @@ bits-exact t s cs (suc n) b k =
     let rest = crossBinsAt s (b + 3) (k + 20 * m) n in
     ap (λ (x : ℕ). x * 2 + asBit (selects t (selectAt s k m) cs))
     (bits-exact t s cs n (b + 3) (k + 20 * m)
-    ∙ sym (bits-shift (λ i. selects t (getD (raw.crossBinAt s b k ∷ rest) i noCrossBin .select) cs) (length rest) 0))
+    ∙ bits-move _ (λ i. selects t (getD (raw.crossBinAt s b k ∷ rest) i noCrossBin .select) cs) 0 (length rest) (λ i. refl))
 
 -- ---- the whole cross
 
@@ -163,7 +157,7 @@ module _ (s : List ℕ) (ok : accepted s ≡ true) (c : ℕ) (h : c < length (ta
       unfolding hitsFrom productHits
       hits-exact =
           ap (λ (n : ℕ). map (hitBit s gate (cp + 1) sizes) (upFrom 0 n)) (sym products-many)
-          ∙ numbers-map (hitBit s gate (cp + 1) sizes) (λ cs. asBit (all f cs)) [] (products t c) 0
+          ∙ map-numbers (hitBit s gate (cp + 1) sizes) (λ cs. asBit (all f cs)) [] (products t c) 0
           (λ q k. ap (hitBit s gate (cp + 1) sizes) (let z : 0 + q ≡ q = omega arith in z) ∙ ap asBit (product-is q (omega (arith, products-many))))
 
       mark-is : (q : ℕ) → q < many sizes → markOf t s gate cp sizes bp kp (byte s (cp + 12)) q ≡ productMark t c f (getD (products t c) q [])
@@ -179,7 +173,7 @@ module _ (s : List ℕ) (ok : accepted s ≡ true) (c : ℕ) (h : c < length (ta
       unfolding productMarks
       marks-exact =
           ap (λ (n : ℕ). map (markOf t s gate cp sizes bp kp (byte s (cp + 12))) (upFrom 0 n)) (sym products-many)
-          ∙ numbers-map (markOf t s gate cp sizes bp kp (byte s (cp + 12))) (productMark t c f) [] (products t c) 0
+          ∙ map-numbers (markOf t s gate cp sizes bp kp (byte s (cp + 12))) (productMark t c f) [] (products t c) 0
           (λ q k. ap (markOf t s gate cp sizes bp kp (byte s (cp + 12))) (let z : 0 + q ≡ q = omega arith in z) ∙ mark-is q (omega (arith, products-many)))
 
 -- ---- arrays
@@ -188,7 +182,7 @@ pub hits-say : (s gate : List ℕ) (at : ℕ) (sizes : List ℕ) (n : ℕ) (l l�
 unfolding hitsFrom Says
 hits-say s gate at sizes n l l′ e q h =
     let g = hitBit s gate at sizes in
-    ap (λ (x : List ℕ). getD x q 0) e ∙ put-first (map g (upFrom 0 n)) l q 0 (omega (arith, length-numbers g 0 n)) ∙ getD-numbers g 0 n q 0 h ∙ ap g (let z : 0 + q ≡ q = omega arith in z)
+    ap (λ (x : List ℕ). getD x q 0) e ∙ put-first (map g (upFrom 0 n)) l q 0 (omega (arith, length-row g 0 n)) ∙ getD-row g 0 n q 0 h ∙ ap g (let z : 0 + q ≡ q = omega arith in z)
 
 module _ (n : ℕ) (l l′ : List ℕ) (e : l′ ≡ put 0 (replicate n 0) l) where
   cleared : (q : ℕ) → q < n → getD l′ q 0 ≡ 0

@@ -1,4 +1,3 @@
-pub mod Extra
 pub mod Walks
 pub mod Rows
 pub mod Adding

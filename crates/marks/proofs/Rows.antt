@@ -3,49 +3,25 @@
 use mathlib.Core.Path.{_≡_, refl, ap, ap₂, sym, _∙_}
 use mathlib.Core.Bool.{Bool, true, false}
 use mathlib.Core.List.{List, [], _∷_}
-use Prim.Native.Nat.{ℕ, zero, suc, _+_, _-_, _*_, _≤_, _<_}
+use Prim.Native.Nat.{ℕ, zero, suc, _+_, _*_, _≤_, _<_}
 use native.Mathlib.Omega.{arith}
 use lib.Dec.{eqb, leb}
 use lib.ListN.{length, getD, drop, replicate, length-replicate, getD-replicate, length-drop, List·getD-eq-default}
 use lib.Seq.{getD-drop}
 use borrow.Author.Tests.{eqb-true, eq-eqb, ne-eqb, leb-true, leb-false}
-use Rattle.model.specs.Lists.{upFrom, pairUp, all, asBit}
+use Rattle.model.specs.Lists.{pairUp, asBit}
 use Rattle.model.specs.Table.{Table}
 use Rattle.model.specs.Values.{fieldValue}
-use Rattle.model.specs.Counters.{CoverBin, listed, auto, noCoverBin, isFrom, meets, Counter, valueBin, defaultBin, illegalBin, transition, illegalTransition, crossBin, illegalCross, product, coverBins, pointCounters, productCount, withinLimits}
-use Rattle.model.specs.Format.{byte, u16, u64, accepted, tableOf}
+use Rattle.model.specs.Counters.{CoverBin, listed, auto, noCoverBin, isFrom, meets}
+use Rattle.model.specs.Format.{byte, u16, u64}
 use Rattle.model.specs.Register.{pointTotal}
-use Rattle.model.proofs.Booleans.{and-left, bool-eq}
-use Rattle.model.proofs.Sections.{acceptance, accepted-decodes}
-use Rattle.model.proofs.Limits.{all-from}
+use Rattle.model.proofs.Booleans.{bool-eq}
+use Rattle.model.proofs.Lists.{length-row, getD-row}
 use Rattle.arrays.specs.Put.{put}
 use Rattle.arrays.specs.Flat.{covers, origin, Origins, meetBit}
+use Rattle.arrays.proofs.PutLaws.{put-in, put-before}
 use Rattle.selects.specs.Told.{leafBit}
 use Rattle.marks.specs.Tokens.{tokenPoint, tokenBit, RowTold, RowsTold, Kept, namedBit, namedFrom}
-use Rattle.marks.proofs.Extra.{length-numbers, getD-numbers, put-in, put-before}
-
--- ---- the cover bins of a point are at most 256
-
-covers-fewer : (xs : List Counter) → length (coverBins xs) ≤ length xs
-unfolding coverBins
-covers-fewer [] = omega arith
-covers-fewer (valueBin c ∷ xs) = let h = covers-fewer xs in omega arith
-covers-fewer (defaultBin b ∷ xs) = let h = covers-fewer xs in omega arith
-covers-fewer (illegalBin b ∷ xs) = let h = covers-fewer xs in omega arith
-covers-fewer (transition b ∷ xs) = let h = covers-fewer xs in omega arith
-covers-fewer (illegalTransition b ∷ xs) = let h = covers-fewer xs in omega arith
-covers-fewer (crossBin c i ∷ xs) = let h = covers-fewer xs in omega arith
-covers-fewer (illegalCross c i ∷ xs) = let h = covers-fewer xs in omega arith
-covers-fewer (product c cs ∷ xs) = let h = covers-fewer xs in omega arith
-
-pub covers-few : (s : List ℕ) → accepted s ≡ true → (p : ℕ) → p < pointTotal (tableOf s) → length (covers (tableOf s) p) ≤ 256
-unfolding covers withinLimits
-covers-few s ok p h =
-    let t = tableOf s in
-    let points = all (λ q. leb (length (pointCounters t q)) 256) (upFrom 0 (length (t .points))) in
-    let crosses = all (λ c. leb (productCount t c) 1024) (upFrom 0 (length (t .crosses))) in
-    let few = leb-true (length (pointCounters t p)) 256 (all-from (λ q. leb (length (pointCounters t q)) 256) 0 (length (t .points)) (and-left points crosses (acceptance s t (accepted-decodes s ok) .limited)) p (omega arith) (omega arith)) in
-    omega (arith, covers-fewer (pointCounters t p))
 
 -- ---- a row of names
 
@@ -102,8 +78,8 @@ module _ (t : Table) (s gate : List ℕ) (c at row : ℕ) (l l′ : List ℕ) (r
     unfolding namedFrom Origins
     row-named origins b p ep eb op small inside from e =
         told (namedFrom origins b (256 * p) 256) e λ d h g. (
-          omega (arith, length-numbers (namedBit origins b) (256 * p) 256),
-          getD-numbers (namedBit origins b) (256 * p) 256 d 0 (omega arith)
+          omega (arith, length-row (namedBit origins b) (256 * p) 256),
+          getD-row (namedBit origins b) (256 * p) 256 d 0 (omega arith)
               ∙ ap₂ (λ (x y : ℕ). asBit (eqb (getD origins (256 * x + d) 0) y)) ep eb
               ∙ ap (λ (x : ℕ). asBit (eqb x (u16 s (at + 2)))) (from (tokenPoint s c at) d inside h)
               ∙ ap asBit (origin-from (u16 s (at + 2)) (getD mine d noCoverBin) small)

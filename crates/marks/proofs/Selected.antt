@@ -16,26 +16,21 @@ use Rattle.model.specs.Counters.{CoverBin, noCoverBin, meets, tuples, selects}
 use Rattle.model.specs.Format.{byte, u16, u64, crossPoints}
 use Rattle.model.specs.Raw.{selectAt}
 use Rattle.model.proofs.Booleans.{and-left, and-right}
+use Rattle.model.proofs.Lists.{one-left, length-row, getD-row, getD-map}
 use Rattle.arrays.specs.Flat.{covers}
-use Rattle.arrays.proofs.PutLaws.{left-suc}
+use Rattle.arrays.proofs.PutLaws.{put-first}
 use Rattle.selects.specs.Products.{many, turns, digits}
 use Rattle.selects.specs.Single.{Single, BinsSingle}
 use Rattle.selects.specs.Told.{leafBit, leafAt}
 use Rattle.selects.specs.Evaluator.{valueOf}
-use Rattle.selects.proofs.Tuples.{some-left, digit-at, length-digits, part-at}
+use Rattle.selects.proofs.Tuples.{digit-at, length-digits, part-at}
 use Rattle.selects.proofs.Bridge.{filled-told, selectAt-told}
+use Rattle.selects.proofs.Steps.{size-pos}
 use Rattle.marks.specs.Parts.{partsAt, gatesOpen, hitBit}
 use Rattle.marks.specs.Tokens.{tokenPoint, RowTold, RowsTold, TokensLegal, truthBit, truthOf, selectsIt}
 use Rattle.marks.specs.Bins.{bitsOf, markOf, addend, Says, BinsLegal}
-use Rattle.marks.proofs.Extra.{length-numbers, getD-numbers, map-getD, put-first}
 
 -- ---- digits
-
-size-pos : (ns : List ℕ) → 1 ≤ many ns → (p : ℕ) → p < length ns → 1 ≤ getD ns p 0
-unfolding many
-size-pos [] h p k = absurd (let z : p < 0 = k in omega arith)
-size-pos (n ∷ ns) h zero k = some-left n (many ns) h .0
-size-pos (n ∷ ns) h (suc p) k = size-pos ns (some-left n (many ns) h .1) p (omega arith)
 
 pub digit-small : (ns : List ℕ) (q p : ℕ) → q < many ns → p < length ns → getD (digits ns q) p 0 < getD ns p 0
 digit-small ns q p h k = subst (λ (x : ℕ). x < getD ns p 0) (digit-at ns q p k) (mod-lt (turns (drop (suc p) ns) q) (size-pos ns (omega arith) p k))
@@ -57,16 +52,16 @@ open-at s gate at (d ∷ ds) e (suc i) h =
 module _ (t : Table) (s : List ℕ) (c : ℕ) where
   pub length-parts : length (partsAt t s c) ≡ byte s c
   unfolding partsAt
-  length-parts = length-map (crossPoints s c) (covers t) ∙ length-numbers (λ i. byte s (c + 1 + i)) 0 (byte s c)
+  length-parts = length-map (crossPoints s c) (covers t) ∙ length-row (λ i. byte s (c + 1 + i)) 0 (byte s c)
 
   pub part-is : (i : ℕ) → i < byte s c → getD (partsAt t s c) i [] ≡ covers t (byte s (c + 1 + i))
   unfolding partsAt
   part-is i h =
-      map-getD (covers t) (crossPoints s c) i 0 [] (omega (arith, length-numbers (λ i. byte s (c + 1 + i)) 0 (byte s c)))
-      ∙ ap (covers t) (getD-numbers (λ i. byte s (c + 1 + i)) 0 (byte s c) i 0 h ∙ ap (λ (x : ℕ). byte s (c + 1 + x)) (let z : 0 + i ≡ i = omega arith in z))
+      getD-map (covers t) (crossPoints s c) i 0 [] (omega (arith, length-row (λ i. byte s (c + 1 + i)) 0 (byte s c)))
+      ∙ ap (covers t) (getD-row (λ i. byte s (c + 1 + i)) 0 (byte s c) i 0 h ∙ ap (λ (x : ℕ). byte s (c + 1 + x)) (let z : 0 + i ≡ i = omega arith in z))
 
   pub size-is : (i : ℕ) → i < byte s c → getD (map length (partsAt t s c)) i 0 ≡ length (covers t (byte s (c + 1 + i)))
-  size-is i h = map-getD length (partsAt t s c) i [] 0 (omega (arith, length-parts)) ∙ ap length (part-is i h)
+  size-is i h = getD-map length (partsAt t s c) i [] 0 (omega (arith, length-parts)) ∙ ap length (part-is i h)
 
 -- ---- one token
 
@@ -101,8 +96,8 @@ module _ (t : Table) (s gate leaves : List ℕ) (c k n : ℕ) (sizes : List ℕ)
       let part : getD product p noCoverBin ≡ getD (covers t (tokenPoint s c at)) d noCoverBin =
       part-at parts q p whole (omega (arith, length-parts t s c))
       ∙ ap₂ (λ (x : List CoverBin) (y : List ℕ). getD x (getD (digits y q) p 0) noCoverBin) (part-is t s c p pos) (sym same) in
-      put-first (map g (upFrom 0 n)) (replicate 32 0) i 0 (omega (arith, length-numbers g 0 n))
-      ∙ getD-numbers g 0 n i 0 h
+      put-first (map g (upFrom 0 n)) (replicate 32 0) i 0 (omega (arith, length-row g 0 n))
+      ∙ getD-row g 0 n i 0 h
       ∙ ap g (let z : 0 + i ≡ i = omega arith in z)
       ∙ rows i h d small gate-on
       ∙ leaf-same (meets t) product (getD (covers t (tokenPoint s c at)) d noCoverBin) (byte s at) p (u16 s (at + 2)) (fieldValue (u64 s (at + 4))) (fieldValue (u64 s (at + 12))) part
@@ -120,13 +115,13 @@ module _ (s : List ℕ) (c b k n i : ℕ) (h : i < n) (m : ℕ) (em : m ≡ byte
   unfolding BinsSingle
   single-first x =
       subst (λ (y : ℕ). Single s k y × BinsSingle s (b + 3) (k + 20 * y) (n - (i + 1))) (sym em)
-      (subst (λ (y : ℕ). BinsSingle s b k y) (left-suc n i h) x)
+      (subst (λ (y : ℕ). BinsSingle s b k y) (one-left n i h) x)
 
   pub legal-first : BinsLegal s c b k (n - i) → (m ≤ 32) × TokensLegal s c k m × BinsLegal s c (b + 3) (k + 20 * m) (n - (i + 1))
   unfolding BinsLegal
   legal-first x =
       subst (λ (y : ℕ). (y ≤ 32) × TokensLegal s c k y × BinsLegal s c (b + 3) (k + 20 * y) (n - (i + 1))) (sym em)
-      (subst (λ (y : ℕ). BinsLegal s c b k y) (left-suc n i h) x)
+      (subst (λ (y : ℕ). BinsLegal s c b k y) (one-left n i h) x)
 
 -- what the bin adds to a mark, and what the bins after it add
 sum-marks : (open′ v : Bool) (w bits : ℕ) → cond (eqb (asBit open′) 1 && v) w 0 + 2 * w * cond open′ bits 0 ≡ w * cond open′ (bits * 2 + asBit v) 0
@@ -142,7 +137,7 @@ module _ (t : Table) (s gate hits leaves : List ℕ) (c b k n i : ℕ) (h : i < 
       ap (λ (x : ℕ). cond (eqb x 1 && mine) w 0 + 2 * w * cond open′ bits 0) (says q l)
       ∙ go open′ refl
       ∙ ap (λ (x : ℕ). w * cond open′ (bitsOf t s (b + 3) (k + 20 * x) (n - (i + 1)) product′ * 2 + asBit (selects t (selectAt s k x) product′)) 0) em
-      ∙ ap (λ (x : ℕ). w * cond open′ (bitsOf t s b k x product′) 0) (sym (left-suc n i h))
+      ∙ ap (λ (x : ℕ). w * cond open′ (bitsOf t s b k x product′) 0) (sym (one-left n i h))
     where
       open′ : Bool
       open′ = gatesOpen s gate (c + 1) (digits sizes q)

@@ -10,7 +10,7 @@ use lib.Dec.{eqb}
 use lib.ListN.{length, take, drop, getD, drop-of-length-le}
 use borrow.Author.Tests.{ne-eqb, eq-eqb}
 use Rattle.model.specs.Format.{byte}
-use Rattle.arrays.proofs.PutLaws.{head-tail}
+use Rattle.model.proofs.Lists.{head-tail}
 use Rattle.selects.specs.Products.{many, digits}
 use Rattle.selects.specs.Odometer.{atFirst, afterStep}
 use Rattle.selects.specs.declared.products.Walk.{Walk}

@@ -1,6 +1,6 @@
 // Which products are hit: those of which each part's gate is 1.
-use crate::parts::element;
 use arrays::as_bit;
+use arrays::element;
 use selects::products::Walk;
 use selects::products::first;
 use selects::products::next;

@@ -1,6 +1,6 @@
 // The truth of a cross bin's tokens for the cover bins of their points: row j, 256 bytes, is that of token j.
-use crate::parts::element;
 use arrays::as_bit;
+use arrays::element;
 use arrays::put_same;
 use covers::put_meets;
 use values::fields::field;

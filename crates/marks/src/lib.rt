@@ -9,28 +9,18 @@ use crate::bins::add_bins;
 use crate::hits::put_hits;
 use crate::parts::sizes_of;
 use crate::parts::total;
+use arrays::put_same_u16;
 use words::bytes::byte;
 ghost use mathlib.Core.Path.{_≡_};
 ghost use mathlib.Core.Bool.{Bool, true};
 ghost use Prim.Native.Nat.{_<_, _≤_};
-ghost use lib.ListN.{length, take, replicate};
+ghost use lib.ListN.{length, take};
 ghost use Rattle.model.specs.Counters.{CoverBin, productCount};
 ghost use Rattle.model.specs.Format.{accepted, tableOf};
 ghost use Rattle.model.specs.Register.{pointTotal};
 ghost use Rattle.arrays.specs.Put.{put};
 ghost use Rattle.arrays.specs.Flat.{coverCounts, Origins, Tells, productHits, productMarks};
 ghost use Rattle.marks.specs.Bins.{StandsAtPlace};
-
-fn clear(marks: &mut [u16], n: usize)
-    requires { ⌜ n ≤ length (now marks) ⌝ }
-    ensures { λ _. ⌜ now (marks .exit) ≡ put 0 (replicate n 0) (now (marks .entry)) ⌝ }
-{
-    let mut i = 0;
-    while i < n {
-        marks[i] = 0;
-        i += 1;
-    }
-}
 
 // Which products have each part's gate at 1, and, of these, which cross bins select them. Answers how many products there are.
 // Cross number c: its record stands at cp, its bins from bp on, their tokens from kp on.
@@ -55,7 +45,7 @@ pub fn put_marks(
     let size = sizes_of(t, cp, counts);
     let all = total(count, size);
     put_hits(hits, t, cp + 1, all, count, size, gate);
-    clear(marks, all);
+    put_same_u16(marks, 0, all, 0);
     let n = byte(t, cp + 12) as usize;
     add_bins(
         marks,

@@ -1,17 +1,11 @@
 // The parts of a cross: how many cover bins each has, and how many products that makes.
+use arrays::element;
 use words::bytes::byte;
 ghost use mathlib.Core.Path.{_≡_};
 ghost use Prim.Native.Nat.{_<_, _≤_, _+_};
-ghost use lib.ListN.{getD, take};
+ghost use lib.ListN.{take};
 ghost use Rattle.selects.specs.Products.{many};
 ghost use Rattle.marks.specs.Parts.{sizeAt, sizesAt, factor};
-
-// An element of a flat array; 0 past its end.
-pub fn element(a: &[u16], at: usize) -> u16
-    ensures { λ r. ⌜ r ≡ getD (now (a .entry)) at 0 ⌝ }
-{
-    if at < a.len() { a[at] } else { 0 }
-}
 
 fn size_at(t: &[u8], c: usize, counts: &[u16], i: usize) -> u16
     requires { ⌜ (c < 1000000000) × (i < 4) ⌝ }

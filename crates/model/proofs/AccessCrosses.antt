@@ -15,7 +15,8 @@ use Rattle.model.specs.Format.{BinHead, got, each, readRecord, byte, u16
 use Rattle.model.proofs.Readers.{never, bind-elim, done-elim, got-record, All, all-any, all-at, times-all, each-all, owned, each-back}
 use Rattle.model.proofs.Sections.{Layout}
 use Rattle.model.proofs.Access.{CountAt, section-count, owned-count, sum-times, Records, records}
-use Rattle.model.proofs.AccessTransitions.{sum-mapped, sum-taken, map-twice}
+use Rattle.model.proofs.AccessTransitions.{sum-mapped, sum-taken}
+use Rattle.model.proofs.Lists.{map-map}
 
 -- ---- how many tokens an expression has
 
@@ -199,7 +200,7 @@ module _ (s : List ℕ) (t : Table) (end : ℕ) (l : Layout s t end) where
   heads-known : l .crossHeads ≡ map crossHeadOf (t .crosses)
   heads-known =
       each-back (λ h. Unit {0}) (λ c. c .head) (readCrossBins s) (λ h u at next c e. cross-bins s h at next c e .head) (l .crossHeads) (all-any (l .crossHeads)) (l .at₉) (l .parts) (l .next₁₀) (l .partsRead)
-      ∙ ap (map (λ c. c .head)) parts-known ∙ map-twice (λ c. c .head) partsOf crossHeadOf (λ x. refl) (t .crosses)
+      ∙ ap (map (λ c. c .head)) parts-known ∙ map-map (λ c. c .head) partsOf crossHeadOf (λ x. refl) (t .crosses)
 
   -- Section 8: the c-th record says the c-th cross, and how many cross bins it has.
   pub crosses-access : (CountAt s (l .next₈) 0 8 (length (t .crosses)) (l .at₈)) × (l .next₉ ≡ l .at₈ + length (t .crosses) * 13)

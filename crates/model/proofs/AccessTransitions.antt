@@ -13,6 +13,7 @@ use Rattle.model.specs.Format.{Test, got, each, byte, count, disagreemen
 use Rattle.model.proofs.Readers.{bind-elim, done-elim, got-tested, all-any, Owned, owned, each-back}
 use Rattle.model.proofs.Sections.{Layout}
 use Rattle.model.proofs.Access.{CountAt, section-count, owned-count, sum-times, Records, records, noRange}
+use Rattle.model.proofs.Lists.{map-map}
 
 -- ---- the records of a decoded transition bin
 
@@ -181,10 +182,6 @@ module _ {A B : Type 0} (f : B → ℕ) (g : A → B) (h : A → ℕ) (same : (x
   sum-taken (suc i) [] = refl
   sum-taken (suc i) (x ∷ xs) = ap₂ _+_ (same x) (sum-taken i xs)
 
-pub map-twice : {A B C : Type 0} (f : B → C) (g : A → B) (h : A → C) → ((x : A) → f (g x) ≡ h x) → (xs : List A) → map f (map g xs) ≡ map h xs
-map-twice f g h same [] = refl
-map-twice f g h same (x ∷ xs) = ap₂ _∷_ (same x) (map-twice f g h same xs)
-
 -- ---- the sections
 
 abbrev stepsHead : TransitionBin → TransitionHead (List (List StepHead))
@@ -210,14 +207,14 @@ module _ (s : List ℕ) (t : Table) (end : ℕ) (l : Layout s t end) where
   lengths-known =
       each-back (λ h. Unit {0}) (λ b. withOwned b (map length (b .owned))) (readBinSteps s) (λ h u at next b e. bin-steps s h at next b e .head) (l .lengths) (all-any (l .lengths)) (l .at₆) (l .steps) (l .next₇) (l .stepsRead)
       ∙ ap (map (λ b. withOwned b (map length (b .owned)))) steps-known
-      ∙ map-twice (λ b. withOwned b (map length (b .owned))) stepsHead lengthsHead
-      (λ b. ap (headWith b) (map-twice length (map stepHeadOf) length (λ ss. length-map ss stepHeadOf) (b .sequences))) (t .transitionBins)
+      ∙ map-map (λ b. withOwned b (map length (b .owned))) stepsHead lengthsHead
+      (λ b. ap (headWith b) (map-map length (map stepHeadOf) length (λ ss. length-map ss stepHeadOf) (b .sequences))) (t .transitionBins)
 
   transitions-known : l .transitions ≡ map transitionHeadOf (t .transitionBins)
   transitions-known =
       each-back (λ h. Unit {0}) (λ b. withOwned b (length (b .owned))) (readSequences s) (λ h u at next b e. bin-sequences s h at next b e .head) (l .transitions) (all-any (l .transitions)) (l .at₅) (l .lengths) (l .next₆) (l .lengthsRead)
       ∙ ap (map (λ b. withOwned b (length (b .owned)))) lengths-known
-      ∙ map-twice (λ b. withOwned b (length (b .owned))) lengthsHead transitionHeadOf (λ b. ap (headWith b) (length-map (b .sequences) length)) (t .transitionBins)
+      ∙ map-map (λ b. withOwned b (length (b .owned))) lengthsHead transitionHeadOf (λ b. ap (headWith b) (length-map (b .sequences) length)) (t .transitionBins)
 
   -- Section 4: the i-th record says the i-th transition bin, and how many sequences it has.
   pub transitions-access : (CountAt s (l .next₄) 0 64 (length (t .transitionBins)) (l .at₄)) × (l .next₅ ≡ l .at₄ + length (t .transitionBins) * 4)

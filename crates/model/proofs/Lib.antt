@@ -2,6 +2,7 @@
 pub mod Booleans
 pub mod Fields
 pub mod Readers
+pub mod Lists
 pub mod Searches
 -- the table's bytes: where the sections stand, and what a table that was read is
 pub mod Sections

@@ -11,15 +11,15 @@ use borrow.Author.Tests.{leb-true, eqb-true, eqb-false, ne-eqb}
 use Rattle.model.specs.Lists.{upFrom, all, count, sumOf, concatOf}
 use Rattle.model.specs.Table.{Kind, cover, ignore, illegal, default, ValueBin, Step, TransitionBin, CrossBin, Cross, Table, noCross}
 use Rattle.model.specs.Values.{binCount}
-use Rattle.model.specs.Counters.{listed, auto, Counter, valueBin, product, pointAt, crossAt, hasAuto, autoCount, binCounters, valueCounters, transitionCounter, transitionCounters, autoCounters, pointCounters, crossParts, products, productOf, productCount, withinLimits, crossBinCounter, crossBinCounters, crossCounters, counters, isIllegal}
+use Rattle.model.specs.Counters.{listed, auto, Counter, valueBin, product, pointAt, crossAt, hasAuto, autoCount, binCounters, valueCounters, transitionCounter, transitionCounters, autoCounters, pointCounters, products, productOf, productCount, withinLimits, crossBinCounter, crossBinCounters, crossCounters, counters, isIllegal}
 use Rattle.model.specs.Ranges.{transitionsOf, countersAt, coversAt, limitsIn}
 use Rattle.model.specs.Register.{illegalTotal, Sequence, binSequences, sequences, runTotal}
 use Rattle.model.specs.Sampling.{runLength}
 use Rattle.model.proofs.Booleans.{and-left}
-use Rattle.model.proofs.Readers.{All, all-at}
+use Rattle.model.proofs.Readers.{All}
 use Rattle.model.proofs.RawLaws.{sum-append}
-use Rattle.model.proofs.WellFormed.{WellFormed, InPoints}
-use Rattle.model.proofs.Limits.{products-count, all-from, counters-exact, same-product, limits-exact}
+use Rattle.model.proofs.WellFormed.{WellFormed}
+use Rattle.model.proofs.Limits.{products-count, all-from, counters-exact, limits-exact, cross-products}
 
 -- ---- sums
 
@@ -248,10 +248,6 @@ module _ (t : Table) (w : WellFormed t) (within : withinLimits t ≡ true) where
   point-length : (p : ℕ) → p < length (t .points) → length (pointCounters t p) ≡ countersAt t p
   point-length p h = sym (counters-exact t w p .same (leb-true (countersAt t p) 256 (few-counters p h)))
 
-  cross-products : (c : ℕ) → productCount t c ≡ productOf (coversAt t) (crossAt t c .points)
-  unfolding crossParts
-  cross-products c = same-product t w few-counters (crossAt t c .points) (all-at (λ x. InPoints (length (t .points)) (x .points)) noCross tt (t .crosses) (w .crosses) c)
-
   -- Within the limits the counters are as many as the closed forms say.
   pub counter-total : length (counters t)
       ≡ sumOf (countersAt t) (upFrom 0 (length (t .points))) + (sumOf (crossSum transitionsOf) (t .crosses) + sumOf (λ c. productOf (coversAt t) (c .points)) (t .crosses))
@@ -262,6 +258,6 @@ module _ (t : Table) (w : WellFormed t) (within : withinLimits t ≡ true) where
       (size-concat length refl length-append (pointCounters t) (upFrom 0 (length (t .points)))
       ∙ sum-same (λ p. length (pointCounters t p)) (countersAt t) 0 (length (t .points)) (λ p lo hi. point-length p (omega arith)))
       (size-concat length refl length-append (crossCounters t) (upFrom 0 (length (t .crosses)))
-      ∙ ap (λ (f : ℕ → ℕ). sumOf f (upFrom 0 (length (t .crosses)))) (fun-ext λ c. cross-length t c ∙ ap (crossSum transitionsOf (crossAt t c) +_) (cross-products c))
+      ∙ ap (λ (f : ℕ → ℕ). sumOf f (upFrom 0 (length (t .crosses)))) (fun-ext λ c. cross-length t c ∙ ap (crossSum transitionsOf (crossAt t c) +_) (cross-products t w few-counters c))
       ∙ sum-numbers (crossTerm t) noCross (t .crosses)
       ∙ sum-add (crossSum transitionsOf) (λ c. productOf (coversAt t) (c .points)) (t .crosses))

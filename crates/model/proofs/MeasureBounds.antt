@@ -33,16 +33,16 @@ all-sum f k i (suc n) e =
     let c : k * suc n ≡ k + k * n = omega arith in
     omega arith
 
-transitions-one : (k : Kind) → transitionsOf k ≤ 1
-transitions-one cover = omega arith
-transitions-one ignore = omega arith
-transitions-one illegal = omega arith
-transitions-one default = omega arith
+pub transition-few : (k : Kind) → transitionsOf k ≤ 1
+transition-few cover = omega arith
+transition-few ignore = omega arith
+transition-few illegal = omega arith
+transition-few default = omega arith
 
 kinds-few : (bs : List CrossBin) → sumOf (λ b. transitionsOf (b .kind)) bs ≤ length bs
 unfolding sumOf
 kinds-few [] = omega arith
-kinds-few (b ∷ bs) = omega (arith, transitions-one (b .kind), kinds-few bs)
+kinds-few (b ∷ bs) = omega (arith, transition-few (b .kind), kinds-few bs)
 
 bins-few : (cs : List Cross) → sumOf (crossSum transitionsOf) cs ≤ sumOf (λ c. length (c .bins)) cs
 unfolding sumOf

@@ -14,6 +14,18 @@ use Rattle.model.proofs.Readers.{done-elim}
 use Rattle.model.proofs.RawLaws.{Says, says-to, says-bind, says-owned, says-record, says-cons, says-got, says-times}
 use Rattle.model.proofs.AccessCrosses.{one-expression}
 
+-- ---- how many there are
+
+pub length-crosses : (s : List ℕ) (c b k n : ℕ) → length (crossesAt s c b k n) ≡ n
+unfolding crossesAt
+length-crosses s c b k zero = refl
+length-crosses s c b k (suc n) = ap suc (length-crosses s (c + 13) _ _ n)
+
+pub length-cross-bins : (s : List ℕ) (b k n : ℕ) → length (crossBinsAt s b k n) ≡ n
+unfolding crossBinsAt
+length-cross-bins s b k zero = refl
+length-cross-bins s b k (suc n) = ap suc (length-cross-bins s (b + 3) _ n)
+
 -- ---- section 8
 
 pub crosses-raw : (s : List ℕ) (points at : ℕ) → Says (readCrossSection s points at) (rows (crossHead s) 13 (at + 2) (u16 s at)) (at + 2 + 13 * u16 s at) (length s)
@@ -24,7 +36,7 @@ crosses-raw s points at =
 -- ---- section 9
 
 module _ (s : List ℕ) where
-  bins-of : (c at : ℕ) → at ≤ length s → Says (readCrossBins s (crossHead s c) at) (record { head = crossHead s c; bins = crossBinHeadsAt s c at (byte s (c + 12)) }) (at + 3 * byte s (c + 12)) (length s)
+  pub bins-of : (c at : ℕ) → at ≤ length s → Says (readCrossBins s (crossHead s c) at) (record { head = crossHead s c; bins = crossBinHeadsAt s c at (byte s (c + 12)) }) (at + 3 * byte s (c + 12)) (length s)
   unfolding readCrossBins readCrossBin
   bins-of c at h =
       let n = byte s (c + 12) in

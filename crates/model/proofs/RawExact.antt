@@ -2,18 +2,21 @@
 -- Assumes nothing.
 use mathlib.Core.Path.{_≡_, refl, sym, ap, _∙_}
 use mathlib.Core.List.{List}
+use mathlib.Core.Bool.{true}
 use Prim.Native.Nat.{ℕ, suc, _+_, _*_, _≤_}
 use native.Mathlib.Omega.{arith}
 use native.Mathlib.Nat.{mul-comm}
 use lib.ListN.{length, getD}
 use Rattle.model.specs.Table.{Point, Table}
-use Rattle.model.specs.Format.{got, done, u16, recordSizes, BinHead, binHead, readPointSection, readBinSection, readRangeSection, readTransitionBins, readCrosses, readTable, decode, decoded}
+use Rattle.model.specs.Format.{got, done, u16, recordSizes, BinHead, binHead, readPointSection, readBinSection, readRangeSection, readTransitionBins, readCrosses, readTable, decode, decoded, pointRecord, accepted, tableOf}
 use Rattle.model.specs.Raw.{countPlace, recordCount, recordsPlace, rows, rawTable}
-use Rattle.model.proofs.Sections.{acceptance}
-use Rattle.model.proofs.RawLaws.{Says, says-to, says-bind, says-got}
+use Rattle.model.proofs.Sections.{acceptance, accepted-decodes, accepted-layout}
+use Rattle.model.proofs.RawLaws.{Says, says-to, says-bind, says-got, length-rows}
 use Rattle.model.proofs.RawValues.{points-raw, bins-raw, ranges-raw}
 use Rattle.model.proofs.RawTransitions.{transition-bins-raw}
-use Rattle.model.proofs.RawCrosses.{read-crosses-raw}
+use Rattle.model.proofs.RawCrosses.{read-crosses-raw, length-crosses}
+use Rattle.model.proofs.Access.{points-access}
+use Rattle.model.proofs.AccessCrosses.{crosses-access}
 
 module _ (s : List ℕ) where
   -- a section ends where the next one's count stands
@@ -64,3 +67,23 @@ raw-exact s t e = table-placed s t (length s) (acceptance s t e .read) .0
 
 pub sections-whole : (s : List ℕ) (t : Table) → decode s ≡ decoded t → length s ≡ countPlace s 10
 sections-whole s t e = table-placed s t (length s) (acceptance s t e .read) .1
+
+-- ---- an accepted table
+
+module _ (s : List ℕ) (ok : accepted s ≡ true) where
+  pub accepted-raw : tableOf s ≡ rawTable s
+  accepted-raw = raw-exact s (tableOf s) (accepted-decodes s ok)
+
+  pub many-points : length (tableOf s .points) ≡ recordCount s 0
+  unfolding rawTable
+  many-points = ap (λ (u : Table). length (u .points)) accepted-raw ∙ length-rows (pointRecord s) 11 (recordsPlace s 0) (recordCount s 0)
+
+  pub many-crosses : length (tableOf s .crosses) ≡ recordCount s 7
+  unfolding rawTable
+  many-crosses = ap (λ (u : Table). length (u .crosses)) accepted-raw ∙ length-crosses s _ _ _ (recordCount s 7)
+
+  pub few-points : length (tableOf s .points) ≤ 16
+  few-points = points-access s (tableOf s) (length s) (accepted-layout s ok) .0 .high
+
+  pub few-crosses : length (tableOf s .crosses) ≤ 8
+  few-crosses = crosses-access s (tableOf s) (length s) (accepted-layout s ok) .0 .high

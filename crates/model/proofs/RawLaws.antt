@@ -3,7 +3,7 @@
 use mathlib.Core.Path.{_≡_, refl, sym, ap, ap₂, _∙_, subst}
 use mathlib.Core.Bool.{Bool, true, false, cond}
 use mathlib.Core.List.{List, [], _∷_, _++_}
-use Prim.Native.Nat.{ℕ, zero, suc, _+_, _*_, _≤_, _<_}
+use Prim.Native.Nat.{ℕ, zero, suc, _+_, _-_, _*_, _≤_, _<_}
 use native.Mathlib.Omega.{arith}
 use lib.ListN.{length, getD}
 use Rattle.model.specs.Format.{Read, refused, got, Reader, Test, andThen, _>>=_, done, times, each, readRecord, u16, sectionCount, ownedCount}
@@ -11,6 +11,7 @@ use Rattle.model.specs.Lists.{sumOf}
 use Rattle.model.specs.Raw.{rows}
 use Rattle.model.proofs.Readers.{never, bind-elim, done-elim, got-record, Consed, consed, got-cons}
 use Rattle.model.proofs.Access.{owned-count}
+use Rattle.model.proofs.Lists.{none-left, one-left}
 
 -- ---- records in a row
 
@@ -31,6 +32,23 @@ rows-add says size at zero b = ap (rows says size at) (let y : 0 + b ≡ b = ome
 rows-add says size at (suc a) b =
     ap (rows says size at) (let y : suc a + b ≡ suc (a + b) = omega arith in y)
     ∙ ap (says at ∷_) (rows-add says size (at + size) a b ∙ ap (λ (p : ℕ). rows says size (at + size) a ++ rows says size p b) (let y : at + size + size * a ≡ at + size * suc a = omega arith in y))
+
+-- the i-th of n records, with n - i left, and the ones after it
+pub rows-turn : {A : Type 0} (says : ℕ → A) (size at n i : ℕ) → i < n → rows says size (at + size * i) (n - i) ≡ says (at + size * i) ∷ rows says size (at + size * (i + 1)) (n - (i + 1))
+unfolding rows
+rows-turn says size at n i h =
+    let e : at + size * i + size ≡ at + size * (i + 1) = omega arith in
+    rw (one-left n i h, e)
+
+pub rows-start : {A : Type 0} (says : ℕ → A) (size at n : ℕ) → rows says size (at + size * 0) (n - 0) ≡ rows says size at n
+rows-start says size at n =
+    let e : at + size * 0 ≡ at = omega arith in
+    let f : n - 0 ≡ n = omega arith in
+    rw (e, f)
+
+pub rows-end : {A : Type 0} (says : ℕ → A) (size at n i : ℕ) → n ≤ i → rows says size at (n - i) ≡ []
+unfolding rows
+rows-end says size at n i h = rw (none-left n i h)
 
 pub sum-append : {A : Type 0} (f : A → ℕ) (xs ys : List A) → sumOf f (xs ++ ys) ≡ sumOf f xs + sumOf f ys
 unfolding sumOf

@@ -1,6 +1,6 @@
 -- Sections 1 to 3 by their places: what was got of them is what `Raw` says.
 -- Assumes nothing.
-use mathlib.Core.Path.{_≡_, refl, subst}
+use mathlib.Core.Path.{_≡_, refl, ap, subst}
 use mathlib.Core.List.{List, [], _∷_}
 use Prim.Native.Nat.{ℕ, zero, suc, _+_, _*_, _≤_}
 use native.Mathlib.Omega.{arith}
@@ -16,6 +16,11 @@ unfolding readPointSection readPoint
 points-raw s at = says-bind (sectionCount s 1 16) _ at (u16 s at) (at + 2) _ _ (length s) (says-record s 2 _ (u16 s) at) (λ h. says-times s 11 (pointTests s) (pointRecord s) (u16 s at) (at + 2) h)
 
 -- ---- value bins
+
+pub length-bins : (s : List ℕ) (b r n : ℕ) → length (binsAt s b r n) ≡ n
+unfolding binsAt
+length-bins s b r zero = refl
+length-bins s b r (suc n) = ap suc (length-bins s (b + 8) (r + 17 * u16 s (b + 6)) n)
 
 heads-raw : (s : List ℕ) (points n : ℕ) (defaults : List ℕ) (at : ℕ) → at ≤ length s
     → Says (readBinHeads s points n defaults at) (rows (binHead s) 8 at n) (at + 8 * n) (length s)

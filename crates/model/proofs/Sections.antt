@@ -206,21 +206,21 @@ pub accepted-layout : (s : List ℕ) → accepted s ≡ true → Layout s (table
 accepted-layout s e = acceptance s (tableOf s) (accepted-decodes s e) .layout
 
 -- 0 is acceptance: every fault has another number
+pub some-number : (c : FaultClass) → numberOf c ≡ 0 → ⊥
+some-number tooLong e = omega arith
+some-number cut e = omega arith
+some-number count e = omega arith
+some-number value e = omega arith
+some-number unused e = omega arith
+some-number field e = omega arith
+some-number disagreement e = omega arith
+some-number leftover e = omega arith
+some-number limits e = omega arith
+
 pub accepted-zero : (s : List ℕ) → refusalOf s ≡ 0 → accepted s ≡ true
 unfolding accepted refusalOf
 accepted-zero s = go (decode s)
   where
-    some-number : (c : FaultClass) → numberOf c ≡ 0 → ⊥
-    some-number tooLong e = omega arith
-    some-number cut e = omega arith
-    some-number count e = omega arith
-    some-number value e = omega arith
-    some-number unused e = omega arith
-    some-number field e = omega arith
-    some-number disagreement e = omega arith
-    some-number leftover e = omega arith
-    some-number limits e = omega arith
-
     go : (o : Outcome) → numberFrom o ≡ 0 → isDecoded o ≡ true
     go (rejected f) e = absurd (some-number (f .class) e)
     go (decoded t) e = refl

@@ -66,8 +66,8 @@ module _ (t : Table) (p : ℕ) where
       go true e = own-bin b (ap (λ (x : ValueBin). x .point) here ∙ eqb-true (v .point) p e) (v .kind) n
       go false e = unfold coverBins in tt
 
-  own-covers : All Own (coverBins (pointCounters t p))
-  unfolding pointCounters
+  pub own-covers : All (λ c. pointOf t c ≡ p) (coverBins (pointCounters t p))
+  unfolding pointCounters Own
   own-covers =
       own-append (valueCounters t p 0 (t .valueBins) ++ autoCounters t p) (transitionCounters p 0 (t .transitionBins))
       (own-append (valueCounters t p 0 (t .valueBins)) (autoCounters t p) (own-bins 0 (t .valueBins) (λ j. ap (valueBinAt t) (let z : 0 + j ≡ j = omega arith in z))) (autos (hasAuto t p)))

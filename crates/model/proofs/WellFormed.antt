@@ -3,7 +3,7 @@
 -- Assumes nothing.
 use mathlib.Core.Path.{_≡_, refl, sym, ap, ap₂, _∙_, subst}
 use mathlib.Core.Bool.{Bool, true, false, not, _&&_, _||_, cond}
-use mathlib.Core.List.{List, [], _∷_, _++_, map}
+use mathlib.Core.List.{List, [], _∷_, map}
 use Prim.Native.Nat.{ℕ, zero, suc, _+_, _^_, _≤_, _<_}
 use native.Mathlib.Omega.{arith}
 use lib.Dec.{leb, ltb, eqb}
@@ -16,8 +16,9 @@ use Rattle.model.specs.Values.{lowest, highest, fieldValue}
 use Rattle.model.specs.Sampling.{runLength}
 use Rattle.model.specs.Format.{field, unused, Test, got, each, byte, u16, u32, u64, disagreement, pointTests, pointRecord, readPoint, valueTests, patternTests, rangeRules, rangeTests, rangeRecord, readRange, BinHead, allowsPatterns, readBinRanges, TransitionHead, StepHead, sumsOk, readSteps, readBinSteps, readStepRanges, readTransitionRanges, CrossHead, crossPointTest, crossTests, crossHead, readCross, CrossBinHead, CrossParts, readCrossBins, readSelects, decode, decoded}
 use Rattle.model.proofs.Booleans.{and-left, and-right}
-use Rattle.model.proofs.Readers.{bind-elim, done-elim, AllPass, all-any, got-tested, got-record, All, Consed, consed, got-cons, times-all, each-all}
+use Rattle.model.proofs.Readers.{bind-elim, done-elim, AllPass, all-any, got-tested, got-record, All, Consed, consed, got-cons, times-all, each-all, pass-left}
 use Rattle.model.proofs.Sections.{Layout, acceptance}
+use Rattle.model.proofs.Lists.{all-row}
 
 -- ---- points
 
@@ -158,10 +159,6 @@ transition-short s ps h short at next b e =
 abbrev pub InPoints : ℕ → List ℕ → Type 0
 InPoints n ps = All (λ p. p < n) ps
 
-pass-append : (xs ys : List Test) → AllPass (xs ++ ys) → AllPass xs
-pass-append [] ys h = tt
-pass-append (x ∷ xs) ys h = (h .0, pass-append xs ys (h .1))
-
 pass-row : (f : ℕ → Test) (i m : ℕ) → AllPass (map f (upFrom i m)) → (j : ℕ) → i ≤ j → j < i + m → f j .0 ≡ true
 unfolding upFrom
 pass-row f i zero h j lo hi = absurd (omega arith)
@@ -171,18 +168,13 @@ pass-row f i (suc m) h j lo hi = go (leb j i) refl (pass-row f (suc i) m (h .1) 
     go true e k = let z : i ≡ j = omega (arith, leb-true j i e) in ap (λ (x : ℕ). f x .0) (sym z) ∙ h .0
     go false e k = k (leb-false j i e) (omega arith)
 
-all-row : {A : Type 0} (P : A → Type 0) (f : ℕ → A) (i m : ℕ) → ((j : ℕ) → i ≤ j → j < i + m → P (f j)) → All P (map f (upFrom i m))
-unfolding upFrom
-all-row P f i zero h = tt
-all-row P f i (suc m) h = (h i (omega arith) (omega arith), all-row P f (suc i) m (λ j lo hi. h j (omega arith) (omega arith)))
-
 cross-points : (s : List ℕ) (points at next : ℕ) (h : CrossHead) → readCross s points at ≡ got h next → InPoints points (h .points)
 unfolding readCross
 cross-points s points at next h e =
     let r = got-record s 13 (crossTests s points) (crossHead s) at e in
     let n = byte s at in
     let four = within-high 2 4 n (r .passed .0) in
-    let passed = pass-row (crossPointTest s points at) 0 4 (pass-append (map (crossPointTest s points at) (upFrom 0 4)) _ (r .passed .1)) in
+    let passed = pass-row (crossPointTest s points at) 0 4 (pass-left (map (crossPointTest s points at) (upFrom 0 4)) _ (r .passed .1)) in
     subst (λ (x : CrossHead). InPoints points (x .points)) (r .said)
     (all-row (λ p. p < points) (λ i. byte s (at + 1 + i)) 0 n λ j lo hi. one j (lt-ltb j n (omega arith)) (passed j lo (omega arith)))
   where

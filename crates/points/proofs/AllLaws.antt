@@ -2,7 +2,7 @@
 -- Assumes nothing.
 use mathlib.Core.Path.{_≡_, sym, ap, _∙_}
 use mathlib.Core.Bool.{Bool, true}
-use mathlib.Core.List.{List, [], _++_, map}
+use mathlib.Core.List.{List, [], _++_, map, map-append}
 use Prim.Native.Nat.{ℕ, zero, suc, _+_, _-_, _*_, _^_, _≤_, _<_}
 use native.Mathlib.Omega.{arith}
 use lib.Dec.{eqb}
@@ -15,19 +15,20 @@ use Rattle.model.specs.Counters.{Counter, valueCounters, autoCounters, transiti
 use Rattle.model.specs.Sampling.{Reading, skipped, unknown, known, reading, isSkipped, hits}
 use Rattle.model.specs.Format.{accepted, tableOf}
 use Rattle.model.specs.Register.{pointTotal, inWidths, runStretches}
-use Rattle.model.proofs.Sections.{accepted-layout}
+use Rattle.model.proofs.Sections.{accepted-layout, accepted-decodes}
 use Rattle.model.proofs.AccessTransitions.{transitions-access}
+use Rattle.model.proofs.Lists.{from-step, from-end, getD-row}
+use Rattle.model.proofs.RawExact.{many-points, few-points}
 use Rattle.arrays.specs.Flat.{hitFlags, allPointCounters, readingCode, readingCodes}
-use Rattle.values.proofs.FlagsExact.{map-append}
 use Rattle.values.proofs.PointExact.{hit-append, few-counters}
 use Rattle.layout.specs.declared.Layout.{Layout}
 use Rattle.layout.specs.Places.{layoutOf}
 use Rattle.points.specs.Hits.{valueHits, transitionHits, pointHits}
 use Rattle.points.specs.Transitions.{transitionFlags}
-use Rattle.points.proofs.Extra.{from-step, from-end, decodes, point-total, few-points, points-counted}
 use Rattle.points.proofs.Counted.{any-stretches}
 use Rattle.points.proofs.ValueLaws.{in-type}
 use Rattle.points.proofs.TransitionExact.{transition-hits}
+use Rattle.points.proofs.ReadingLaws.{points-counted}
 
 -- ---- one point
 
@@ -49,7 +50,7 @@ module _ (t : Table) (w lens : List ℕ) (p : ℕ) where
 
 module _ (s w lens : List ℕ) (ok : accepted s ≡ true) (widths : inWidths (tableOf s) w ≡ true) (words : (j : ℕ) → getD lens j 0 < 2 ^ 32) (p : ℕ) (inside : p < pointTotal (tableOf s)) where
   pub few-hits : length (pointCounters (tableOf s) p) ≤ 256
-  few-hits = few-counters s (tableOf s) (decodes s ok) p inside
+  few-hits = few-counters s (tableOf s) (accepted-decodes s ok) p inside
 
   pub few-bins : length (tableOf s .transitionBins) ≤ 64
   few-bins = transitions-access s (tableOf s) (length s) (accepted-layout s ok) .0 .high
@@ -80,12 +81,6 @@ points-all f t n e = ap (λ (m : ℕ). map f (concatOf (pointCounters t) (upFrom
 
 -- ---- the readings
 
-pub getD-row : {A : Type 0} (f : ℕ → A) (i n k : ℕ) (d : A) → k < n → getD (map f (upFrom i n)) k d ≡ f (i + k)
-unfolding upFrom
-getD-row f i zero k d h = absurd (omega arith)
-getD-row f i (suc n) zero d h = ap f (let z : i ≡ i + 0 = omega arith in z)
-getD-row f i (suc n) (suc k) d h = getD-row f (suc i) n k d (omega arith) ∙ ap f (let z : suc i + k ≡ i + suc k = omega arith in z)
-
 pub code-read : (t : Table) (w a : List ℕ) (p : ℕ) → take (pointTotal t) a ≡ readingCodes t w → p < pointTotal t → getD a p 0 ≡ readingCode (reading t w p)
 unfolding readingCodes
 code-read t w a p e h = sym (getD-take (pointTotal t) a p 0 h) ∙ ap (λ (x : List ℕ). getD x p 0) e ∙ getD-row (λ q. readingCode (reading t w q)) 0 (pointTotal t) p 0 h ∙ ap (λ (q : ℕ). readingCode (reading t w q)) (let z : 0 + p ≡ p = omega arith in z)
@@ -114,10 +109,10 @@ all-length t w lens = length-map (allPointCounters t) (λ c. asBit (hits t w (ru
 
 module _ (s : List ℕ) (ok : accepted s ≡ true) where
   pub point-number : (l : Layout) → l ≡ layoutOf s → (l .«point_count» ≡ pointTotal (tableOf s)) × (pointTotal (tableOf s) ≤ 16)
-  point-number l e = (points-counted s l e ∙ sym (point-total s ok), few-points s ok)
+  point-number l e = (points-counted s l e ∙ sym (many-points s ok), few-points s ok)
 
   pub few-here : (p : ℕ) → p < pointTotal (tableOf s) → length (pointCounters (tableOf s) p) ≤ 256
-  few-here p h = few-counters s (tableOf s) (decodes s ok) p h
+  few-here p h = few-counters s (tableOf s) (accepted-decodes s ok) p h
 
   -- 256 elements for each point are enough
   pub counters-room : (n i : ℕ) → i + n ≤ pointTotal (tableOf s) → length (concatOf (pointCounters (tableOf s)) (upFrom i n)) ≤ 256 * n

@@ -1,9 +1,9 @@
 -- The counters of a point are the point's.
 -- Assumes nothing.
-use mathlib.Core.Path.{_≡_, refl, sym, ap, ap₂, _∙_}
+use mathlib.Core.Path.{_≡_, refl, sym, ap, _∙_}
 use mathlib.Core.Bool.{Bool, true, false, not, _&&_, cond, and-false}
 use mathlib.Core.List.{List, [], _∷_, _++_, map}
-use Prim.Native.Nat.{ℕ, zero, suc, _+_, _<_}
+use Prim.Native.Nat.{ℕ, suc, _+_, _<_}
 use native.Mathlib.Omega.{arith}
 use lib.Dec.{eqb}
 use lib.ListN.{length, getD, replicate}
@@ -14,22 +14,8 @@ use Rattle.model.specs.Values.{inRanges, binCount}
 use Rattle.model.specs.Counters.{listed, auto, Counter, valueBin, defaultBin, illegalBin, transition, illegalTransition, crossBin, illegalCross, product, pointAt, valueBinAt, transitionBinAt, pointOf, autoCount, hasAuto, holds, listedValue, binCounters, valueCounters, transitionCounter, transitionCounters, autoCounters}
 use Rattle.model.specs.Sampling.{guardTrue, reading, isIn, Stretches, coverGuard, coverHit, hits}
 use Rattle.model.proofs.Readers.{All, all-append}
+use Rattle.model.proofs.Lists.{all-row, map-all, map-one}
 use Rattle.arrays.specs.Flat.{hitFlags}
-
--- ---- lists
-
-pub all-row : {A : Type 0} (P : A → Type 0) (f : ℕ → A) → ((k : ℕ) → P (f k)) → (i n : ℕ) → All P (map f (upFrom i n))
-unfolding upFrom
-all-row P f h i zero = tt
-all-row P f h i (suc n) = (h i, all-row P f h (suc i) n)
-
-pub map-all : {A B : Type 0} (P : A → Type 0) (f g : A → B) → ((a : A) → P a → f a ≡ g a) → (xs : List A) → All P xs → map f xs ≡ map g xs
-map-all P f g h [] k = refl
-map-all P f g h (x ∷ xs) k = ap₂ _∷_ (h x (k .0)) (map-all P f g h xs (k .1))
-
-pub map-one : {A B : Type 0} (P : A → Type 0) (f : A → B) (y : B) → ((a : A) → P a → f a ≡ y) → (xs : List A) → All P xs → map f xs ≡ replicate (length xs) y
-map-one P f y h [] k = refl
-map-one P f y h (x ∷ xs) k = ap₂ _∷_ (h x (k .0)) (map-one P f y h xs (k .1))
 
 -- ---- a point's counters
 
@@ -57,7 +43,7 @@ TransitionOf t p (product c cs) = ⊥
 
 module _ (t : Table) (p : ℕ) where
   bin-of : (b : ℕ) (k : Kind) (n : ℕ) → valueBinAt t b .point ≡ p → All (ValueOf t p) (binCounters b k n)
-  bin-of b cover n e = all-row (ValueOf t p) (λ k. valueBin (listed b k)) (λ k. e) 0 n
+  bin-of b cover n e = all-row (ValueOf t p) (λ k. valueBin (listed b k)) 0 n (λ k lo hi. e)
   bin-of b ignore n e = tt
   bin-of b illegal n e = (e, tt)
   bin-of b default n e = (e, tt)
@@ -81,7 +67,7 @@ module _ (t : Table) (p : ℕ) where
   auto-of = go (hasAuto t p)
     where
       go : (c : Bool) → All (ValueOf t p) (cond c (map (λ k. valueBin (auto p k)) (upFrom 0 (autoCount (pointAt t p)))) [])
-      go true = all-row (ValueOf t p) (λ k. valueBin (auto p k)) (λ k. refl) 0 (autoCount (pointAt t p))
+      go true = all-row (ValueOf t p) (λ k. valueBin (auto p k)) 0 (autoCount (pointAt t p)) (λ k lo hi. refl)
       go false = tt
 
   pub all-values : All (ValueOf t p) (valueCounters t p 0 (t .valueBins) ++ autoCounters t p)

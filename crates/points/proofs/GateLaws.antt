@@ -2,21 +2,21 @@
 -- Assumes nothing.
 use mathlib.Core.Path.{_≡_, refl, sym, ap, ap₂, _∙_, subst}
 use mathlib.Core.Bool.{Bool, true, false, cond}
-use mathlib.Core.List.{List, [], _∷_, _++_, map, append-assoc}
+use mathlib.Core.List.{List, [], _∷_, _++_, map, append-assoc, map-append}
 use Prim.Native.Nat.{ℕ, zero, suc, _+_, _-_, _*_, _≤_, _<_}
 use native.Mathlib.Omega.{arith}
 use lib.Dec.{eqb, ltb}
-use lib.ListN.{length, getD, take, drop, length-append, length-map, length-take, List·getD-append}
-use lib.Seq.{getD-take, getD-append-add, length-take-le}
+use lib.ListN.{length, getD, take, length-append, length-map, length-take, List·getD-append}
+use lib.Seq.{getD-take, getD-append-add}
 use borrow.Author.Tests.{eq-eqb, ne-eqb, ltb-true, ltb-false}
 use Rattle.model.specs.Lists.{upFrom, concatOf, asBit}
 use Rattle.model.specs.Table.{Table}
 use Rattle.model.specs.Counters.{Counter, valueBin, defaultBin, illegalBin, transition, illegalTransition, crossBin, illegalCross, product, noCoverBin, pointCounters, coverBins}
 use Rattle.model.specs.Register.{pointTotal}
+use Rattle.model.proofs.Lists.{one-left, none-left, getD-map}
 use Rattle.arrays.specs.Put.{put}
 use Rattle.arrays.specs.Flat.{kindOf, kindsOf, allPointCounters, pointStart, covers, Tells}
-use Rattle.values.proofs.FlagsExact.{map-append}
-use Rattle.values.proofs.Laws.{one-left, none-left}
+use Rattle.arrays.proofs.PutLaws.{put-in, put-before}
 use Rattle.points.specs.Gates.{pickOne, picked, Kinded, Flagged, Gathered}
 
 pub pick-none : (k x : ℕ) → (k ≡ 0 → ⊥) → pickOne k x ≡ []
@@ -133,24 +133,6 @@ kinds-long t kinds e = omega (arith, ap length e, length-take (length (allPointC
 
 -- ---- a gate, point after point
 
-getD-put-low : (n j : ℕ) (xs l : List ℕ) → j < n → n ≤ length l → getD (put n xs l) j 0 ≡ getD l j 0
-unfolding put
-getD-put-low n j xs l h k =
-    ap (λ (z : List ℕ). getD z j 0) (append-assoc (take n l) xs (drop (n + length xs) l))
-    ∙ List·getD-append (take n l) (xs ++ drop (n + length xs) l) 0 j (omega (arith, length-take-le n l k)) ∙ getD-take n l j 0 h
-
-getD-put-in : (n k : ℕ) (xs l : List ℕ) → k < length xs → n ≤ length l → getD (put n xs l) (n + k) 0 ≡ getD xs k 0
-unfolding put
-getD-put-in n k xs l h m =
-    ap (λ (z : List ℕ). getD z (n + k) 0) (append-assoc (take n l) xs (drop (n + length xs) l))
-    ∙ ap (λ (i : ℕ). getD (take n l ++ (xs ++ drop (n + length xs) l)) (i + k) 0) (sym (length-take-le n l m))
-    ∙ getD-append-add (take n l) (xs ++ drop (n + length xs) l) k 0 ∙ List·getD-append xs (drop (n + length xs) l) 0 k h
-
-getD-map : {A : Type 0} (f : A → ℕ) (xs : List A) (d : A) (k : ℕ) → k < length xs → getD (map f xs) k 0 ≡ f (getD xs k d)
-getD-map f [] d k h = absurd (omega arith)
-getD-map f (x ∷ xs) d zero h = refl
-getD-map f (x ∷ xs) d (suc k) h = getD-map f xs d k (omega arith)
-
 abbrev pub partOf : Table → List ℕ → List ℕ → ℕ → List ℕ
 partOf t kinds flags q = picked kinds flags (pointStart t q) (length (pointCounters t q))
 
@@ -172,13 +154,13 @@ module _ (t : Table) (kinds flags : List ℕ) where
       go true z =
           let y : q < p = ltb-true q p z in
           ap (λ (x : List ℕ). getD x (256 * q + k) 0) e
-          ∙ getD-put-low (256 * p) (256 * q + k) (partOf t kinds flags p) gate (omega (arith, few q y, picked-few kinds flags (length (pointCounters t q)) (pointStart t q))) room
+          ∙ put-before (256 * p) (partOf t kinds flags p) gate (256 * q + k) 0 room (omega (arith, few q y, picked-few kinds flags (length (pointCounters t q)) (pointStart t q)))
           ∙ h q y k l
       go false z =
           let y : q ≡ p = omega (arith, ltb-false q p z) in
           ap (λ (x : List ℕ). getD x (256 * q + k) 0) e
           ∙ ap (λ (i : ℕ). getD (put (256 * p) (partOf t kinds flags p) gate) (256 * i + k) 0) y
-          ∙ getD-put-in (256 * p) k (partOf t kinds flags p) gate (subst (λ (i : ℕ). k < length (partOf t kinds flags i)) y l) room
+          ∙ put-in (256 * p) (partOf t kinds flags p) gate k 0 room (subst (λ (i : ℕ). k < length (partOf t kinds flags i)) y l)
           ∙ ap (λ (i : ℕ). getD (partOf t kinds flags i) k 0) (sym y)
 
   pub parts-gathered : (n : ℕ) (gate : List ℕ) → n ≡ pointTotal t → Kinded t kinds → Parts t kinds flags n gate → Gathered t flags gate
@@ -186,4 +168,4 @@ module _ (t : Table) (kinds flags : List ℕ) where
   parts-gathered n gate e kd h g f p k b l =
       let z = picked-covers t p b g kinds flags kd f in
       h p (omega arith) k (omega (arith, ap length z, length-map (covers t p) (λ b. asBit (g (valueBin b)))))
-      ∙ ap (λ (x : List ℕ). getD x k 0) z ∙ getD-map (λ b. asBit (g (valueBin b))) (covers t p) noCoverBin k l
+      ∙ ap (λ (x : List ℕ). getD x k 0) z ∙ getD-map (λ b. asBit (g (valueBin b))) (covers t p) k noCoverBin 0 l

@@ -14,12 +14,13 @@ use Rattle.model.specs.Figures.{itemOf}
 use Rattle.model.specs.Format.{accepted, tableOf}
 use Rattle.model.specs.Register.{pointTotal}
 use Rattle.model.proofs.Readers.{all-append, all-map}
+use Rattle.model.proofs.RawExact.{few-points}
+use Rattle.model.proofs.Lists.{getD-row, map-one}
 use Rattle.arrays.specs.Put.{put}
 use Rattle.arrays.specs.Flat.{itemsOf, allPointCounters, pointStart, pointStarts}
 use Rattle.arrays.proofs.PutLaws.{put-nil}
-use Rattle.points.proofs.Extra.{few-points}
-use Rattle.points.proofs.Counted.{ValueOf, TransitionOf, all-values, all-transitions, map-one}
-use Rattle.points.proofs.AllLaws.{points-turn, points-end, points-all, counters-room, getD-row}
+use Rattle.points.proofs.Counted.{ValueOf, TransitionOf, all-values, all-transitions}
+use Rattle.points.proofs.AllLaws.{points-turn, points-end, points-all, counters-room}
 use Rattle.points.proofs.KindExact.{start-next}
 
 module _ (t : Table) (p : ℕ) where

@@ -2,7 +2,7 @@
 -- Assumes nothing.
 use mathlib.Core.Path.{_≡_, refl, sym, ap, ap₂, _∙_}
 use mathlib.Core.Bool.{Bool, true, false, _&&_, cond}
-use mathlib.Core.List.{List, [], _∷_, _++_, map}
+use mathlib.Core.List.{List, [], _∷_, _++_, map, map-append}
 use Prim.Native.Nat.{ℕ, zero, suc, _+_, _-_, _*_, _≤_, _<_}
 use native.Mathlib.Omega.{arith}
 use native.Mathlib.Numerals.{add-one}
@@ -20,19 +20,22 @@ use Rattle.model.proofs.Readers.{All}
 use Rattle.model.proofs.WellFormed.{GoodBin, WellFormed, well-formed}
 use Rattle.model.proofs.Exact.{Divisible}
 use Rattle.model.proofs.TableExact.{point-at, divisible}
+use Rattle.model.proofs.Lists.{map-map, length-row, from-step, from-end}
+use Rattle.model.proofs.Sections.{accepted-decodes}
+use Rattle.model.proofs.RawExact.{accepted-raw, few-points}
 use Rattle.arrays.specs.Put.{put}
 use Rattle.arrays.specs.Flat.{kindOf, kindsOf, allPointCounters, pointStart, pointStarts}
 use Rattle.arrays.proofs.PutLaws.{put-nil, put-cons}
+use Rattle.arrays.proofs.Written.{both-written}
+use Rattle.arrays.proofs.FlatLaws.{kinds-length}
 use Rattle.layout.specs.declared.Layout.{Layout}
 use Rattle.layout.specs.Places.{layoutOf}
 use Rattle.values.specs.Flags.{fixedFlags}
 use Rattle.values.specs.Points.{hasAutoAt, autoPart}
-use Rattle.values.proofs.FlagsExact.{map-append, map-map, length-row, cover-exact}
-use Rattle.values.proofs.PointLaws.{both-written}
+use Rattle.values.proofs.FlagsExact.{cover-exact}
 use Rattle.values.proofs.PointExact.{auto-raw, few-values}
 use Rattle.values.proofs.Ready.{bins-raw}
 use Rattle.points.specs.Kinds.{kindsBy, binKinds, kindsIn, transitionKind, transitionKinds, transitionKindsFrom}
-use Rattle.points.proofs.Extra.{from-step, from-end, decodes, is-raw, few-points}
 use Rattle.points.proofs.ValueLaws.{record-is}
 use Rattle.points.proofs.TransitionExact.{bins-are}
 use Rattle.points.proofs.AllLaws.{few-here, points-turn, points-end, points-all, counters-room}
@@ -117,7 +120,7 @@ module _ (s : List ℕ) (ok : accepted s ≡ true) (p : ℕ) (inside : p < point
   unfolding kindsOf pointCounters
   raw-kinds =
       let t = tableOf s in
-      let d = decodes s ok in
+      let d = accepted-decodes s ok in
       let good = well-formed s t d in
       let low = lowest (pointAt t p) in
       map-append kindOf (valueCounters t p 0 (t .valueBins) ++ autoCounters t p) (transitionCounters p 0 (t .transitionBins))
@@ -125,7 +128,7 @@ module _ (s : List ℕ) (ok : accepted s ≡ true) (p : ℕ) (inside : p < point
       (map-append kindOf (valueCounters t p 0 (t .valueBins)) (autoCounters t p)
       ∙ ap₂ _++_
       (value-kinds t good p 0 (t .valueBins) (good .bins) (few-values s t d p inside) ∙ ap (kindsIn low p) (bins-raw s t d p inside))
-      (auto-kinds t p low ∙ ap (λ (b : Bool). autoPart b false low (pointAt t p)) (ap (λ (u : Table). hasAuto u p) (is-raw s ok) ∙ auto-raw s p)))
+      (auto-kinds t p low ∙ ap (λ (b : Bool). autoPart b false low (pointAt t p)) (ap (λ (u : Table). hasAuto u p) (accepted-raw s ok) ∙ auto-raw s p)))
       (ap (λ (us : List TransitionBin). map kindOf (transitionCounters p 0 us))
       (bins-are s ok ∙ ap (λ (at : ℕ). transitionsAt s at (recordsPlace s 4) (recordsPlace s 5) (recordsPlace s 6) (recordCount s 3)) (let z : recordsPlace s 3 ≡ recordsPlace s 3 + 4 * 0 = omega arith in z))
       ∙ transition-kinds s p (recordsPlace s 3) (recordCount s 3) 0 (recordsPlace s 4) (recordsPlace s 5) (recordsPlace s 6))
@@ -150,10 +153,6 @@ module _ (s : List ℕ) (ok : accepted s ≡ true) (p : ℕ) (inside : p < point
         let ys = autoPart has false low (pointRecord s (l .points + 11 * p)) in
         let zs = transitionKindsFrom s p (l .transitions) 0 (l .«transition_count») in
         omega (arith, ap length kind-parts, length-append (xs ++ ys) zs, length-append xs ys, length-map (pointCounters (tableOf s) p) kindOf, few-here s ok p inside)
-
-pub kinds-length : (cs : List Counter) → length (kindsOf cs) ≡ length cs
-unfolding kindsOf
-kinds-length cs = length-map cs kindOf
 
 -- three writes in a row
 pub all-written : (cur c d e : ℕ) (xs ys zs whole l l₁ l₂ l₃ : List ℕ) → whole ≡ (xs ++ ys) ++ zs → cur + length whole ≤ length l → c ≡ cur + length xs → l₁ ≡ put cur xs l → d ≡ c + length ys → l₂ ≡ put c ys l₁

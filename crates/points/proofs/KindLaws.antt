@@ -8,8 +8,9 @@ use native.Mathlib.Omega.{arith}
 use borrow.Author.Tests.{eq-eqb, ne-eqb}
 use Rattle.model.specs.Format.{byte, u16, kindFrom}
 use Rattle.model.specs.Raw.{binAt, binsAt}
+use Rattle.model.proofs.Lists.{one-left, none-left}
 use Rattle.values.specs.Flags.{coverFlags}
-use Rattle.values.proofs.Laws.{bins-step, bins-end, one-left, none-left}
+use Rattle.values.proofs.Laws.{bins-step, bins-end}
 use Rattle.points.specs.Kinds.{kindsBy, plainKind, binKinds, kindsIn, transitionKind, transitionKinds, transitionKindsFrom}
 
 pub kind-two : (k : ℕ) → k ≡ 2 → 2 ≡ plainKind k

@@ -1,4 +1,3 @@
-pub mod Extra
 pub mod ReadingLaws
 pub mod Counted
 pub mod ValueLaws

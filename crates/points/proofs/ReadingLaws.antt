@@ -6,7 +6,7 @@ use mathlib.Core.List.{List, _∷_, map}
 use Prim.Native.Nat.{ℕ, _+_, _-_, _*_, _^_, _≤_, _<_}
 use native.Mathlib.Omega.{arith}
 use borrow.Author.Needs.{needs}
-use borrow.Author.Tests.{eq-eqb, ne-eqb, ltb-true}
+use borrow.Author.Tests.{eq-eqb, ne-eqb, ltb-true, not-true, not-false}
 use lib.Dec.{eqb, ltb}
 use lib.ListN.{length, set}
 use Rattle.model.specs.Table.{Point}
@@ -18,18 +18,28 @@ use Rattle.model.specs.Raw.{recordCount, recordsPlace}
 use Rattle.model.specs.Register.{pointTotal, inWidths}
 use Rattle.model.proofs.Booleans.{and-left}
 use Rattle.model.proofs.Limits.{all-from}
+use Rattle.model.proofs.Lists.{map-same, from-step, from-end}
+use Rattle.model.proofs.Sections.{accepted-decodes}
+use Rattle.model.proofs.RawExact.{many-points, few-points}
 use Rattle.ranges.specs.Types.{typed}
 use Rattle.arrays.specs.Put.{put}
 use Rattle.arrays.specs.Flat.{readingCode, readingCodes}
 use Rattle.arrays.proofs.PutLaws.{put-nil, put-cons}
-use Rattle.values.proofs.Laws.{not-true, not-false}
-use Rattle.values.proofs.Fixed.{map-from}
 use Rattle.values.proofs.PointExact.{point-raw}
 use Rattle.values.proofs.Ready.{wide}
 use Rattle.points.specs.Readings.{readingOf, codeAt, codesFrom, Read}
 use Rattle.layout.specs.declared.Layout.{Layout}
 use Rattle.layout.specs.Places.{layoutOf, Small}
-use Rattle.points.proofs.Extra.{from-step, from-end, decodes, point-total, few-points, points-placed, points-counted}
+
+-- the layout's places are those of the sections
+module _ (s : List ℕ) (l : Layout) (e : l ≡ layoutOf s) where
+  pub points-placed : l .points ≡ recordsPlace s 0
+  unfolding layoutOf
+  points-placed = ap (λ (x : Layout). x .points) e
+
+  pub points-counted : l .«point_count» ≡ recordCount s 0
+  unfolding layoutOf
+  points-counted = ap (λ (x : Layout). x .«point_count») e
 
 -- ---- one reading
 
@@ -68,7 +78,7 @@ module _ (s w : List ℕ) (at n i : ℕ) where
 module _ (s w : List ℕ) (ok : accepted s ≡ true) where
   -- the point's record says what the point is
   pub same-point : (p : ℕ) → p < pointTotal (tableOf s) → pointAt (tableOf s) p ≡ pointRecord s (recordsPlace s 0 + 11 * p)
-  same-point p h = point-raw s (tableOf s) (decodes s ok) p h
+  same-point p h = point-raw s (tableOf s) (accepted-decodes s ok) p h
 
   pub reading-raw : (p : ℕ) → p < pointTotal (tableOf s) → reading (tableOf s) w p ≡ readingOf (pointRecord s (recordsPlace s 0 + 11 * p)) w p
   unfolding reading
@@ -77,8 +87,8 @@ module _ (s w : List ℕ) (ok : accepted s ≡ true) where
   pub codes-exact : readingCodes (tableOf s) w ≡ codesFrom s w (recordsPlace s 0) 0 (recordCount s 0)
   unfolding readingCodes codesFrom codeAt
   codes-exact =
-      map-from (λ p. readingCode (reading (tableOf s) w p)) (λ p. codeAt s w (recordsPlace s 0 + 11 * p) p) 0 (pointTotal (tableOf s)) (λ p a b. ap readingCode (reading-raw p (omega arith)))
-      ∙ ap (λ (n : ℕ). codesFrom s w (recordsPlace s 0) 0 n) (point-total s ok)
+      map-same (λ p. readingCode (reading (tableOf s) w p)) (λ p. codeAt s w (recordsPlace s 0 + 11 * p) p) 0 (pointTotal (tableOf s)) (λ p a b. ap readingCode (reading-raw p (omega arith)))
+      ∙ ap (λ (n : ℕ). codesFrom s w (recordsPlace s 0) 0 n) (many-points s ok)
 
   pub value-in : inWidths (tableOf s) w ≡ true → (p : ℕ) → p < pointTotal (tableOf s) → valueWord w p < 2 ^ pointAt (tableOf s) p .width
   unfolding inWidths
@@ -90,9 +100,9 @@ module _ (s w : List ℕ) (ok : accepted s ≡ true) where
 
   pub all-read : inWidths (tableOf s) w ≡ true → Read s w (recordsPlace s 0) (recordCount s 0)
   all-read e = record {
-    wide = λ p h. wide s (tableOf s) (decodes s ok) p (omega (arith, point-total s ok));
+    wide = λ p h. wide s (tableOf s) (accepted-decodes s ok) p (omega (arith, many-points s ok));
     within = λ p h.
-        let k : p < pointTotal (tableOf s) = omega (arith, point-total s ok) in
+        let k : p < pointTotal (tableOf s) = omega (arith, many-points s ok) in
         subst (λ (x : Point). valueWord w p < 2 ^ x .width) (same-point p k) (value-in e p k);
   }
 
@@ -101,7 +111,7 @@ module _ (s w : List ℕ) (ok : accepted s ≡ true) where
     read-ready small h =
         let p = points-placed s l e in
         let n = points-counted s l e in
-        (omega (arith, small .points), omega (arith, point-total s ok, few-points s ok), rw (p, n) (all-read h))
+        (omega (arith, small .points), omega (arith, many-points s ok, few-points s ok), rw (p, n) (all-read h))
 
     pub read-codes : codesFrom s w (l .points) 0 (l .«point_count») ≡ readingCodes (tableOf s) w
     read-codes = ap₂ (λ (a n : ℕ). codesFrom s w a 0 n) (points-placed s l e) (points-counted s l e) ∙ sym codes-exact

@@ -15,13 +15,13 @@ use Rattle.model.specs.Figures.{inTotal}
 use Rattle.model.specs.Format.{accepted, tableOf}
 use Rattle.model.specs.Register.{pointTotal}
 use Rattle.model.proofs.Readers.{All, all-append, all-map}
+use Rattle.model.proofs.Lists.{one-left, none-left}
+use Rattle.model.proofs.RawExact.{few-points}
 use Rattle.arrays.specs.Put.{put}
 use Rattle.arrays.specs.Flat.{kindOf, kindsOf, totalFlags, allPointCounters, pointStart, covers, Tells}
 use Rattle.arrays.proofs.PutLaws.{put-nil, put-cons}
-use Rattle.values.proofs.Laws.{one-left, none-left}
 use Rattle.points.specs.Gates.{Kinded}
 use Rattle.points.specs.Spread.{spreadOne, nextAt, spread}
-use Rattle.points.proofs.Extra.{few-points}
 use Rattle.points.proofs.Counted.{ValueOf, TransitionOf, all-values, all-transitions}
 use Rattle.points.proofs.AllLaws.{points-turn, points-end, points-all, counters-room}
 use Rattle.points.proofs.GateLaws.{list-point}

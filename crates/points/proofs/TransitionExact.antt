@@ -1,8 +1,8 @@
 -- The flags of a point's transition bins, by the places of their records, are the model's hits.
 -- Assumes nothing.
 use mathlib.Core.Path.{_≡_, refl, sym, ap, ap₂, _∙_, subst}
-use mathlib.Core.Bool.{Bool, true, false, not, _&&_, _||_, cond, or-false}
-use mathlib.Core.List.{List, [], _∷_, _++_, map}
+use mathlib.Core.Bool.{Bool, true, false, not, _&&_, _||_, cond, or-false, or-assoc}
+use mathlib.Core.List.{List, [], _∷_, _++_, map, map-append}
 use Prim.Native.Nat.{ℕ, zero, suc, _+_, _-_, _*_, _^_, _<_}
 use native.Mathlib.Omega.{arith}
 use native.Mathlib.Numerals.{add-one}
@@ -18,14 +18,15 @@ use Rattle.model.specs.Sampling.{guardTrue, reading, isSkipped, excludedMatch, 
 use Rattle.model.specs.Format.{byte, kindFrom, guardFrom, accepted, tableOf}
 use Rattle.model.specs.Raw.{transitionAt, transitionsAt, stepTotal, rangeTotal, recordsPlace, recordCount, rawTable}
 use Rattle.model.specs.Register.{runStretches}
+use Rattle.model.proofs.Lists.{any-same}
+use Rattle.model.proofs.RawExact.{accepted-raw}
+use Rattle.model.proofs.RunBits.{bit-or, bit-zero}
 use Rattle.arrays.specs.Flat.{hitFlags}
-use Rattle.values.proofs.FlagsExact.{map-append}
 use Rattle.layout.specs.declared.Layout.{Layout}
 use Rattle.layout.specs.Places.{layoutOf}
 use Rattle.points.specs.Hits.{transitionHits}
 use Rattle.points.specs.Transitions.{lostWith, lostLengths, flagsBy, flagsOf, flagsFrom, transitionFlags}
-use Rattle.points.proofs.Extra.{any-from, is-raw}
-use Rattle.points.proofs.WordLaws.{bit-or, bit-zero, some-left, some-length}
+use Rattle.points.proofs.WordLaws.{some-left, some-length}
 
 -- ---- what is lost
 
@@ -33,17 +34,13 @@ use Rattle.points.proofs.WordLaws.{bit-or, bit-zero, some-left, some-le
 abbrev takes : List ℕ → List ℕ → ℕ → ℕ → ℕ → ℕ → Bool
 takes s lens p b k i = eqb (byte s (b + 4 * i)) p && excludes (kindFrom (byte s (b + 4 * i + 1))) && bit k (getD lens i 0)
 
-regroup : (x y z : Bool) → ((x || y) || z) ≡ (x || (y || z))
-regroup true y z = refl
-regroup false y z = refl
-
 lost-bit : (s lens : List ℕ) (p b k n i before : ℕ) → bit k (lostLengths s lens p b i n before) ≡ (bit k before || any (takes s lens p b k) (upFrom i n))
 unfolding lostLengths upFrom any
 lost-bit s lens p b k zero i before = sym (or-false (bit k before))
 lost-bit s lens p b k (suc n) i before =
     lost-bit s lens p b k n (i + 1) (lostWith s p (b + 4 * i) before (getD lens i 0))
     ∙ ap₂ _||_ (go (eqb (byte s (b + 4 * i)) p && excludes (kindFrom (byte s (b + 4 * i + 1))))) (ap (λ (j : ℕ). any (takes s lens p b k) (upFrom j n)) (add-one i))
-    ∙ regroup (bit k before) (takes s lens p b k i) (any (takes s lens p b k) (upFrom (suc i) n))
+    ∙ or-assoc (bit k before) (takes s lens p b k i) (any (takes s lens p b k) (upFrom (suc i) n))
   where
     go : (c : Bool) → bit k (cond c (bitOr before (getD lens i 0)) before) ≡ (bit k before || (c && bit k (getD lens i 0)))
     go true = bit-or k before (getD lens i 0)
@@ -82,7 +79,7 @@ module _ (s w lens : List ℕ) (t : Table) (b K : ℕ) (many : length (t .transi
   unfolding excludedMatch
   lost-is l =
       ap (λ (n : ℕ). any (λ j. eqb (transitionBinAt t j .point) p && excludes (transitionBinAt t j .kind) && bit (l - 1) (getD (take K lens) j 0)) (upFrom 0 n)) many
-      ∙ any-from (λ j. eqb (transitionBinAt t j .point) p && excludes (transitionBinAt t j .kind) && bit (l - 1) (getD (take K lens) j 0)) (takes s lens p b (l - 1)) 0 K
+      ∙ any-same (λ j. eqb (transitionBinAt t j .point) p && excludes (transitionBinAt t j .kind) && bit (l - 1) (getD (take K lens) j 0)) (takes s lens p b (l - 1)) 0 K
       (λ j lo hi.
       let h = heads j (omega arith) in
       ap₂ (λ (x : ℕ) (y : Kind). eqb x p && excludes y && bit (l - 1) (getD (take K lens) j 0)) (h .point) (h .kind)
@@ -101,7 +98,7 @@ module _ (s w lens : List ℕ) (t : Table) (b K : ℕ) (many : length (t .transi
     unfolding hits
     cover-hit =
         ap asBit (ap₂ _&&_ live
-        (any-from (λ l. bit (l - 1) (getD (take K lens) i 0) && not (excludedMatch t (runStretches (take K lens)) (transitionBinAt t i .point) l)) (λ l. bit (l - 1) (getD lens i 0) && not (bit (l - 1) (lostLengths s lens p b 0 K 0))) 1 32
+        (any-same (λ l. bit (l - 1) (getD (take K lens) i 0) && not (excludedMatch t (runStretches (take K lens)) (transitionBinAt t i .point) l)) (λ l. bit (l - 1) (getD lens i 0) && not (bit (l - 1) (lostLengths s lens p b 0 K 0))) 1 32
         (λ l lo hi.
         ap₂ (λ (x q : ℕ). bit (l - 1) x && not (excludedMatch t (runStretches (take K lens)) q l)) (word-is i inside) point-is
         ∙ ap (λ (c : Bool). bit (l - 1) (getD lens i 0) && not c) (lost-is l))
@@ -151,7 +148,7 @@ module _ (s w lens : List ℕ) (t : Table) (b K : ℕ) (many : length (t .transi
 module _ (s : List ℕ) (ok : accepted s ≡ true) where
   pub bins-are : tableOf s .transitionBins ≡ transitionsAt s (recordsPlace s 3) (recordsPlace s 4) (recordsPlace s 5) (recordsPlace s 6) (recordCount s 3)
   unfolding rawTable
-  bins-are = ap (λ (u : Table). u .transitionBins) (is-raw s ok)
+  bins-are = ap (λ (u : Table). u .transitionBins) (accepted-raw s ok)
 
   pub bins-many : length (tableOf s .transitionBins) ≡ recordCount s 3
   bins-many = ap length bins-are ∙ length-transitions s (recordCount s 3) (recordsPlace s 3) (recordsPlace s 4) (recordsPlace s 5) (recordsPlace s 6)

@@ -13,7 +13,8 @@ use Rattle.model.specs.Lists.{asBit}
 use Rattle.model.specs.Sampling.{guardTrue}
 use Rattle.model.specs.Format.{byte, kindFrom, guardFrom}
 use Rattle.model.proofs.Booleans.{false-true}
-use Rattle.values.proofs.Laws.{excludes-kind, one-left, none-left}
+use Rattle.model.proofs.Fields.{excludes-kind}
+use Rattle.model.proofs.Lists.{one-left, none-left}
 use Rattle.points.specs.Transitions.{lostWith, lostLengths, flagsBy, flagsOf, flagsFrom}
 
 module _ (s : List ℕ) (p at before x q k : ℕ) (eq : q ≡ byte s at) (ek : k ≡ byte s (at + 1)) where

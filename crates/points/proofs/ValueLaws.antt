@@ -22,6 +22,9 @@ use Rattle.model.proofs.Readers.{All}
 use Rattle.model.proofs.WellFormed.{GoodBin, WellFormed, well-formed}
 use Rattle.model.proofs.Exact.{Divisible}
 use Rattle.model.proofs.TableExact.{point-at, divisible, read-low, read-high}
+use Rattle.model.proofs.Lists.{length-row}
+use Rattle.model.proofs.Sections.{accepted-decodes}
+use Rattle.model.proofs.RawExact.{accepted-raw}
 use Rattle.ranges.specs.Types.{Wide}
 use Rattle.layout.specs.declared.Layout.{Layout}
 use Rattle.layout.specs.Places.{layoutOf}
@@ -30,11 +33,10 @@ use Rattle.arrays.specs.Flat.{hitFlags, readingCode}
 use Rattle.values.specs.Flags.{Hit, hit, coverFlags, flagsBy, binFlags, flagsIn, excludedIn, listedIn, fits}
 use Rattle.values.specs.Points.{hasAutoAt, autoPart, pointFlags, Near}
 use Rattle.values.proofs.Laws.{length-fixed}
-use Rattle.values.proofs.FlagsExact.{length-row, cover-exact}
+use Rattle.values.proofs.FlagsExact.{cover-exact}
 use Rattle.values.proofs.PointExact.{auto-raw, point-raw, point-exact, few-counters, few-values}
 use Rattle.values.proofs.Ready.{bins-raw, all-near, all-fit, wide, some-auto, read-top}
 use Rattle.points.specs.Hits.{valueHits}
-use Rattle.points.proofs.Extra.{decodes, is-raw}
 use Rattle.points.proofs.ReadingLaws.{value-in}
 use Rattle.points.proofs.Counted.{no-hits}
 
@@ -115,14 +117,14 @@ module _ (s : List ℕ) (ok : accepted s ≡ true) (p : ℕ) (inside : p < point
   unfolding layoutOf
   places-ready =
       let t = tableOf s in
-      let d = decodes s ok in
+      let d = accepted-decodes s ok in
       subst (λ (x : Layout). Near (x .points + 11 * p) (x .bins) (x .ranges) (x .«bin_count») (x .transitions) (x .«transition_count») × Wide s (x .points + 11 * p) × (1 ≤ u16 s (x .points + 11 * p + 9))
       × (fits (binsAt s (x .bins) (x .ranges) (x .«bin_count»)) ≡ true)) (sym e)
       (all-near s t d p inside, wide s t d p inside, some-auto s t d p inside, all-fit s t d p inside)
 
   pub record-is : pointAt (tableOf s) p ≡ pointRecord s (l .points + 11 * p)
   unfolding layoutOf
-  record-is = point-raw s (tableOf s) (decodes s ok) p inside ∙ sym (ap (λ (x : Layout). pointRecord s (x .points + 11 * p)) e)
+  record-is = point-raw s (tableOf s) (accepted-decodes s ok) p inside ∙ sym (ap (λ (x : Layout). pointRecord s (x .points + 11 * p)) e)
 
   pub low-ready : (low : ℕ) → low ≡ lowest (pointRecord s (l .points + 11 * p)) → (low < 2 ^ 60) × (lowest (pointRecord s (l .points + 11 * p)) ≤ low) × (low ≤ highest (pointRecord s (l .points + 11 * p)))
   low-ready low z = rw z (low-top (pointRecord s (l .points + 11 * p)))
@@ -141,7 +143,7 @@ module _ (s w : List ℕ) (ok : accepted s ≡ true) (widths : inWidths (tableOf
   pub in-type : (v : ℕ) → reading (tableOf s) w p ≡ known v → (lowest (pointAt (tableOf s) p) ≤ v) × (v ≤ highest (pointAt (tableOf s) p)) × (v < 8589934592)
   in-type v e =
       let t = tableOf s in
-      let good = well-formed s t (decodes s ok) in
+      let good = well-formed s t (accepted-decodes s ok) in
       let h = value-in s w ok widths p inside in
       let z = is-value v e in
       (omega (arith, read-low t good p (valueWord w p) h), omega (arith, read-top (pointAt t p) (point-at t good p) (valueWord w p) h), omega (arith, read-high t good p (valueWord w p) h))
@@ -156,7 +158,7 @@ module _ (s w : List ℕ) (ok : accepted s ≡ true) (widths : inWidths (tableOf
   few-flags =
       let mine = valueCounters (tableOf s) p 0 (tableOf s .valueBins) ++ autoCounters (tableOf s) p in
       let others = transitionCounters p 0 (tableOf s .transitionBins) in
-      let few : length (mine ++ others) ≤ 256 = few-counters s (tableOf s) (decodes s ok) p inside in
+      let few : length (mine ++ others) ≤ 256 = few-counters s (tableOf s) (accepted-decodes s ok) p inside in
       omega (arith, length-append mine others)
 
   -- at the places of the sections
@@ -165,7 +167,7 @@ module _ (s w : List ℕ) (ok : accepted s ≡ true) (widths : inWidths (tableOf
   unfolding pointFlags
   raw-length v =
       let t = tableOf s in
-      let d = decodes s ok in
+      let d = accepted-decodes s ok in
       let good = well-formed s t d in
       let bins = binsAt s (recordsPlace s 1) (recordsPlace s 2) (recordCount s 1) in
       let x = pointRecord s (recordsPlace s 0 + 11 * p) in
@@ -174,7 +176,7 @@ module _ (s w : List ℕ) (ok : accepted s ≡ true) (widths : inWidths (tableOf
       ∙ ap₂ _+_
       (ap₂ (λ (y : Point) (bs : List ValueBin). length (flagsIn (hit w (lowest y) v (excludedIn p v bs) (listedIn p v bs)) p bs)) (sym (point-raw s t d p inside)) (sym (bins-raw s t d p inside))
       ∙ flags-length t good p (hit w (lowest (pointAt t p)) v (excludedIn p v (t .valueBins)) (listedIn p v (t .valueBins))) refl 0 (t .valueBins) (good .bins) (few-values s t d p inside))
-      (ap₂ (λ (c : Bool) (y : Point). length (autoPart c (not (excludedIn p v bins)) v y)) (sym (ap (λ (u : Table). hasAuto u p) (is-raw s ok) ∙ auto-raw s p)) (sym (point-raw s t d p inside))
+      (ap₂ (λ (c : Bool) (y : Point). length (autoPart c (not (excludedIn p v bins)) v y)) (sym (ap (λ (u : Table). hasAuto u p) (accepted-raw s ok) ∙ auto-raw s p)) (sym (point-raw s t d p inside))
       ∙ auto-length t p (not (excludedIn p v bins)) v)
       ∙ sym (length-append (valueCounters t p 0 (t .valueBins)) (autoCounters t p))
 
@@ -198,7 +200,7 @@ module _ (s w : List ℕ) (ok : accepted s ≡ true) (widths : inWidths (tableOf
       pub hits-known : code < 8589934592 → valueHits (tableOf s) w p ≡ flagsAt s l w p code
       unfolding layoutOf valueHits
       hits-known h =
-          point-exact s (tableOf s) (decodes s ok) p inside w (runStretches []) code (code-known (reading (tableOf s) w p) code is h)
+          point-exact s (tableOf s) (accepted-decodes s ok) p inside w (runStretches []) code (code-known (reading (tableOf s) w p) code is h)
           ∙ sym (ap (λ (x : Layout). flagsAt s x w p code) e)
 
       pub hits-none : 8589934592 ≤ code → valueHits (tableOf s) w p ≡ replicate (length (valueHits (tableOf s) w p)) 0

@@ -3,42 +3,15 @@
 use mathlib.Core.Path.{_≡_, refl, sym, ap, ap₂, _∙_}
 use mathlib.Core.Bool.{Bool, true, false, not, _&&_, _||_, and-true}
 use Prim.Native.Nat.{ℕ, zero, suc, _+_, _-_, _*_, _/_, _%_, _^_, _<_, max}
-use native.Mathlib.Nat.{mod-lt, zero-lt-suc, div-one, pow-suc, mul-comm, div-div-eq-div-mul, div-add-mod', zero-div}
+use native.Mathlib.Nat.{div-one, pow-suc, mul-comm, div-div-eq-div-mul, div-add-mod'}
 use native.Mathlib.Omega.{arith}
 use lib.Dec.{eqb}
-use lib.Arith.{digits-mod}
-use lib.Bits.{bitOr, or-step, or-shr, or-zero-l, or-zero-r}
+use lib.Bits.{bitOr, or-step, or-zero-l, or-zero-r}
 use borrow.Author.Tests.{eq-eqb, eqb-true}
 use Rattle.model.specs.Lists.{upFrom, any, bit}
 use Rattle.model.proofs.Booleans.{and-left, and-right, bool-eq}
-use Rattle.points.proofs.Extra.{any-from, any-shift}
-
-odd : (n : ℕ) → n % 2 < 2
-odd n = mod-lt n (zero-lt-suc 1)
-
-max-odd : (a b : ℕ) → max (a % 2) (b % 2) < 2
-max-odd a b = omega (arith, odd a, odd b)
-
-or-odd : (a b : ℕ) → bitOr a b % 2 ≡ max (a % 2) (b % 2)
-or-odd a b = ap (λ (x : ℕ). x % 2) (or-step a b) ∙ digits-mod (bitOr (a / 2) (b / 2)) (max-odd a b)
-
-max-one : (a b : ℕ) → a < 2 → b < 2 → eqb (max a b) 1 ≡ (eqb a 1 || eqb b 1)
-max-one zero zero h k = refl
-max-one zero (suc zero) h k = refl
-max-one (suc zero) zero h k = refl
-max-one (suc zero) (suc zero) h k = refl
-max-one (suc (suc a)) b h k = absurd (omega arith)
-max-one zero (suc (suc b)) h k = absurd (omega arith)
-max-one (suc zero) (suc (suc b)) h k = absurd (omega arith)
-
--- a bit of two words together
-pub bit-or : (k a b : ℕ) → bit k (bitOr a b) ≡ (bit k a || bit k b)
-bit-or k a b =
-    ap (λ (x : ℕ). eqb (x % 2) 1) (or-shr a b k) ∙ ap (λ (x : ℕ). eqb x 1) (or-odd (a / 2 ^ k) (b / 2 ^ k))
-    ∙ max-one (a / 2 ^ k % 2) (b / 2 ^ k % 2) (odd (a / 2 ^ k)) (odd (b / 2 ^ k))
-
-pub bit-zero : (k : ℕ) → bit k 0 ≡ false
-bit-zero k = ap (λ (x : ℕ). eqb (x % 2) 1) (zero-div (2 ^ k))
+use Rattle.model.proofs.Lists.{any-same, any-shift}
+use Rattle.model.proofs.RunBits.{odd-lt, max-lt, bit-zero}
 
 bit-low : (x : ℕ) → bit 0 x ≡ eqb (x % 2) 1
 bit-low x = ap (λ (y : ℕ). eqb (y % 2) 1) (div-one x)
@@ -77,18 +50,18 @@ miss zero x e h =
 miss (suc n) x e h =
     let half : x / 2 < 2 ^ n = omega (arith, div-add-mod' x 2, pow-suc 2 n) in
     ap₂ _||_
-    (ap₂ (λ (a b : Bool). a && not b) (bit-low x) (bit-low e) ∙ low-miss (x % 2) (e % 2) (odd x) (odd e))
+    (ap₂ (λ (a b : Bool). a && not b) (bit-low x) (bit-low e) ∙ low-miss (x % 2) (e % 2) (odd-lt x) (odd-lt e))
     (any-shift (λ k. bit k x && not (bit k e)) 0 n
-    ∙ any-from (λ k. bit (suc k) x && not (bit (suc k) e)) (λ k. bit k (x / 2) && not (bit k (e / 2))) 0 n (λ k a b. ap₂ (λ (c d : Bool). c && not d) (bit-next k x) (bit-next k e))
+    ∙ any-same (λ k. bit (suc k) x && not (bit (suc k) e)) (λ k. bit k (x / 2) && not (bit k (e / 2))) 0 n (λ k a b. ap₂ (λ (c d : Bool). c && not d) (bit-next k x) (bit-next k e))
     ∙ miss n (x / 2) (e / 2) half)
     ∙ either-miss (eqb (bitOr (x / 2) (e / 2)) (e / 2)) (eqb (max (x % 2) (e % 2)) (e % 2))
-    ∙ ap not (sym (ap₂ eqb (or-step x e) (sym (div-add-mod' e 2)) ∙ eqb-digits (bitOr (x / 2) (e / 2)) (e / 2) (max (x % 2) (e % 2)) (e % 2) (max-odd x e) (odd e)))
+    ∙ ap not (sym (ap₂ eqb (or-step x e) (sym (div-add-mod' e 2)) ∙ eqb-digits (bitOr (x / 2) (e / 2)) (e / 2) (max (x % 2) (e % 2)) (e % 2) (max-lt x e) (odd-lt e)))
 
 -- the lengths 1 to 32: one of x that is not lost; one of x
 pub some-left : (x e : ℕ) → x < 2 ^ 32 → any (λ l. bit (l - 1) x && not (bit (l - 1) e)) (upFrom 1 32) ≡ not (eqb (bitOr x e) e)
-some-left x e h = any-shift (λ l. bit (l - 1) x && not (bit (l - 1) e)) 0 32 ∙ any-from _ (λ k. bit k x && not (bit k e)) 0 32 (λ k a b. ap (λ (m : ℕ). bit m x && not (bit m e)) (let z : suc k - 1 ≡ k = omega arith in z)) ∙ miss 32 x e h
+some-left x e h = any-shift (λ l. bit (l - 1) x && not (bit (l - 1) e)) 0 32 ∙ any-same _ (λ k. bit k x && not (bit k e)) 0 32 (λ k a b. ap (λ (m : ℕ). bit m x && not (bit m e)) (let z : suc k - 1 ≡ k = omega arith in z)) ∙ miss 32 x e h
 
 pub some-length : (x : ℕ) → x < 2 ^ 32 → any (λ l. bit (l - 1) x) (upFrom 1 32) ≡ not (eqb x 0)
 some-length x h =
-    any-from (λ l. bit (l - 1) x) (λ l. bit (l - 1) x && not (bit (l - 1) 0)) 1 32 (λ l a b. sym (ap (λ (c : Bool). bit (l - 1) x && not c) (bit-zero (l - 1)) ∙ and-true (bit (l - 1) x)))
+    any-same (λ l. bit (l - 1) x) (λ l. bit (l - 1) x && not (bit (l - 1) 0)) 1 32 (λ l a b. sym (ap (λ (c : Bool). bit (l - 1) x && not c) (bit-zero (l - 1)) ∙ and-true (bit (l - 1) x)))
     ∙ some-left x 0 h ∙ ap (λ (y : ℕ). not (eqb y 0)) (or-zero-r x)

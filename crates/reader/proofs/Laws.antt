@@ -1,22 +1,37 @@
 -- Sections by their places: from one count to the next, and the bytes of a section's part.
 -- Assumes nothing.
 use mathlib.Core.Path.{_≡_, refl, ap, sym, _∙_}
-use mathlib.Core.Bool.{Bool, true, false, cond}
-use mathlib.Core.List.{List, []}
+use mathlib.Core.Bool.{Bool, true, false, _&&_, cond}
+use mathlib.Core.List.{List, [], _∷_}
 use Prim.Native.Nat.{ℕ, zero, suc, _+_, _-_, _*_, _≤_, _<_}
 use native.Mathlib.Omega.{arith}
 use native.Mathlib.Nat.{mul-le-mul}
 use native.Mathlib.Numerals.{add-one}
-use lib.Dec.{ltb}
+use lib.Dec.{leb, ltb}
 use lib.ListN.{length, getD, take, drop}
-use borrow.Author.Tests.{le-leb, lt-leb, lt-ltb, le-ltb}
+use borrow.Author.Tests.{leb-true, le-leb, lt-leb, lt-ltb, le-ltb}
 use Rattle.model.specs.Format.{u16, recordSizes}
 use Rattle.model.specs.Raw.{countPlace, recordCount, recordsPlace}
+use Rattle.model.proofs.Booleans.{and-left, and-right}
 use Rattle.reader.specs.declared.Part.{Part}
 use Rattle.reader.specs.Parts.{part, partAt, sectionPart, sectionBytes}
-use Rattle.reader.proofs.Extra.{atMost, at-most, u16-small}
 
 -- ---- sizes
+
+-- whether each number of a list is at most m
+unfoldable atMost : ℕ → List ℕ → Bool
+atMost m [] = true
+atMost m (x ∷ xs) = leb x m && atMost m xs
+
+at-most : (m : ℕ) (xs : List ℕ) → atMost m xs ≡ true → (k : ℕ) → getD xs k 0 ≤ m
+unfolding atMost
+at-most m [] e k = omega arith
+at-most m (x ∷ xs) e zero = leb-true x m (and-left (leb x m) (atMost m xs) e)
+at-most m (x ∷ xs) e (suc k) = at-most m xs (and-right (leb x m) (atMost m xs) e) k
+
+pub u16-small : (s : List ℕ) → ((i : ℕ) → getD s i 0 < 256) → (at : ℕ) → u16 s at < 65536
+unfolding u16
+u16-small s bytes at = omega (arith, bytes at, bytes (at + 1))
 
 -- a record has at most 20 bytes
 pub size-small : (k : ℕ) → getD recordSizes k 0 ≤ 20

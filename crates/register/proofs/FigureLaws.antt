@@ -1,7 +1,7 @@
 -- The calls whose tests were made for this table: what they ask of the table, and the model's answer in the code's types.
 -- Assumes nothing.
 use mathlib.Core.Path.{_≡_, refl, sym, ap, ap₂, _∙_}
-use mathlib.Core.Bool.{Bool, true}
+use mathlib.Core.Bool.{true}
 use mathlib.Core.List.{List}
 use mathlib.Core.Option.{Option, none, some}
 use Prim.Native.Nat.{ℕ, _+_, _≤_}
@@ -11,14 +11,11 @@ use lib.Ieee.{Float}
 use borrow.Author.Tests.{le-leb}
 use Rattle.model.specs.Table.{Table}
 use Rattle.model.specs.Figures.{itemCount}
-use Rattle.model.specs.Format.{pointRecord, Outcome, decoded, decode, isDecoded, accepted, tableOf}
-use Rattle.model.specs.Raw.{recordCount, recordsPlace, rawTable}
-use Rattle.model.specs.Register.{wordsNeeded, longEnough, Answer, percent, millionths}
-use Rattle.model.proofs.RawLaws.{length-rows}
-use Rattle.model.proofs.RawExact.{raw-exact}
+use Rattle.model.specs.Format.{decoded, decode, isDecoded, accepted, tableOf}
+use Rattle.model.specs.Register.{wordsNeeded, longEnough, percent, millionths}
+use Rattle.model.proofs.RawExact.{many-points, many-crosses}
 use Rattle.layout.specs.Places.{layoutOf}
 use Rattle.layout.specs.declared.Layout.{Layout}
-use Rattle.coverage.proofs.Extra.{length-crosses}
 use Rattle.figures.specs.Figures.{figureCase, groupCase}
 use Rattle.table.specs.declared.answer.Facts.{Facts}
 use Rattle.register.specs.Answers.{itemAnswer, groupAnswer}
@@ -36,12 +33,10 @@ known-long f t w d h = le-leb (wordsNeeded t) (length w) (omega (arith, words-by
 
 -- the points and the crosses, as the layout has them
 pub items-known : (s : List ℕ) (l : Layout) → l ≡ layoutOf s → decode s ≡ decoded (tableOf s) → l .«point_count» + l .«cross_count» ≡ itemCount (tableOf s)
-unfolding layoutOf rawTable
+unfolding layoutOf
 items-known s l e d =
-    ap (λ (x : Layout). x .«point_count» + x .«cross_count») e
-    ∙ ap₂ _+_ (sym (length-rows (pointRecord s) 11 (recordsPlace s 0) (recordCount s 0)))
-    (sym (length-crosses s (recordsPlace s 7) (recordsPlace s 8) (recordsPlace s 9) (recordCount s 7)))
-    ∙ sym (ap itemCount (raw-exact s (tableOf s) d))
+    let ok = known-accepted s d in
+    ap (λ (x : Layout). x .«point_count» + x .«cross_count») e ∙ ap₂ _+_ (sym (many-points s ok)) (sym (many-crosses s ok))
 
 -- ---- figures
 

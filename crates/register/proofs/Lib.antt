@@ -1,4 +1,4 @@
-pub mod Extra
+pub mod Loops
 pub mod RefusalLaws
 pub mod SampleLaws
 pub mod CallLaws

@@ -1,7 +1,7 @@
 -- The tests of a register and of a call, by the facts of the table.
 -- Assumes nothing.
 use mathlib.Core.Path.{_≡_, refl, sym, ap, ap₂, _∙_}
-use mathlib.Core.Bool.{Bool, true, false, _&&_, cond}
+use mathlib.Core.Bool.{Bool, true, false, _&&_, cond, and-assoc}
 use mathlib.Core.List.{List, [], _∷_, _++_}
 use Prim.Native.Nat.{ℕ, _+_, _-_, _≤_, _<_}
 use native.Mathlib.Omega.{arith}
@@ -12,9 +12,9 @@ use borrow.Author.Tests.{le-leb, lt-leb, lt-ltb, le-ltb}
 use Rattle.model.specs.Lists.{all, firstFailed}
 use Rattle.model.specs.Table.{Table}
 use Rattle.model.specs.Register.{pointTotal, counterTotal, flagOf, samplesOf, countsOf, unknownsOf, wordsNeeded, consistent, longEnough, registerTests, callTests}
+use Rattle.model.proofs.Lists.{all-parts}
 use Rattle.table.specs.declared.answer.Facts.{Facts}
 use Rattle.register.specs.Refusals.{Describes, wordsOf, atMost, consistentAt, RegisterRefusal, PartRefusal, ItemRefusal}
-use Rattle.register.proofs.Extra.{and-assoc, all-both}
 
 -- ---- the register
 
@@ -26,7 +26,7 @@ consistent-by t w n e =
     let f = atMost (samplesOf w) in
     ap (λ (k : ℕ). leb (flagOf w) 1 && all f (take k (drop 2 w))) e
     ∙ ap (λ (l : List ℕ). leb (flagOf w) 1 && all f l) (take-add c (pointTotal t) (drop 2 w) ∙ ap (λ (l : List ℕ). take c (drop 2 w) ++ take (pointTotal t) l) (drop-drop c 2 w))
-    ∙ ap (leb (flagOf w) 1 &&_) (all-both f (take c (drop 2 w)) (take (pointTotal t) (drop (2 + c) w)))
+    ∙ ap (leb (flagOf w) 1 &&_) (all-parts f (take c (drop 2 w)) (take (pointTotal t) (drop (2 + c) w)))
     ∙ sym (and-assoc (leb (flagOf w) 1) (all f (take c (drop 2 w))) (all f (take (pointTotal t) (drop (2 + c) w))))
 
 module _ (f : Facts) (w : List ℕ) where

@@ -14,10 +14,10 @@ use Rattle.model.specs.Sampling.{valueWord, unknownWord}
 use Rattle.model.specs.Format.{decode, decoded}
 use Rattle.model.specs.Register.{pointTotal, illegalTotal, flagOf, samplesOf, countsOf, unknownsOf, longEnough, consistent, inWidths, sample, lastSample, sampleTests, callTests}
 use Rattle.model.proofs.Booleans.{and-left, and-right}
+use Rattle.model.proofs.Lists.{all-same, first-passed, all-getD}
 use Rattle.values.proofs.PointExact.{point-raw}
 use Rattle.table.specs.declared.answer.Facts.{Facts}
 use Rattle.register.specs.Refusals.{Describes, inWidthAt, inWidthsAt, ownRefusal, RegisterRefusal, SampleRefusal, Taken, atMost}
-use Rattle.register.proofs.Extra.{all-same, first-passed, all-getD}
 use Rattle.register.proofs.RefusalLaws.{after-stop, after-on}
 
 module _ (s : List ℕ) (f : Facts) (v report : List ℕ) where
@@ -25,7 +25,7 @@ module _ (s : List ℕ) (f : Facts) (v report : List ℕ) where
   unfolding inWidthsAt inWidths
   widths-by t e n k =
       ap (λ (n : ℕ). all (inWidthAt s v) (upFrom 0 n)) k
-      ∙ all-same (inWidthAt s v) _ 0 (pointTotal t) λ p h.
+      ∙ all-same (inWidthAt s v) _ 0 (pointTotal t) λ p lo h.
       ap (λ (x : Point). ltb (valueWord v p) (2 ^ x .width) && ltb (unknownWord v p) (2 ^ x .width)) (sym (point-raw s t e p (omega arith)))
 
   own-by : (t : Table) → decode s ≡ decoded t → Describes f t → (flag samples : ℕ)
@@ -53,13 +53,13 @@ module _ (s : List ℕ) (f : Facts) (v report : List ℕ) where
 pub sample-taken : (t : Table) (w v report : List ℕ) → 0 ≡ firstFailed (callTests t w (sample v report)) → Taken t w v report
 unfolding callTests
 sample-taken t w v report e =
-    let a = first-passed (longEnough t w) 6 _ e in
-    let b = first-passed (consistent t w) 7 _ (a .1) in
-    let c = first-passed (eqb (length v) (4 + 2 * pointTotal t)) 11 _ (b .1) in
-    let d = first-passed (inWidths t v) 12 _ (c .1) in
-    let f = first-passed (leb (illegalTotal t) (length report)) 10 _ (d .1) in
-    let g = first-passed (eqb (flagOf w) 1) 9 _ (f .1) in
-    let h = first-passed (ltb (samplesOf w) lastSample) 8 _ (g .1) in
+    let a = first-passed (longEnough t w) 7 _ (omega arith) (sym e) in
+    let b = first-passed (consistent t w) 8 _ (omega arith) (a .1) in
+    let c = first-passed (eqb (length v) (4 + 2 * pointTotal t)) 12 _ (omega arith) (b .1) in
+    let d = first-passed (inWidths t v) 13 _ (omega arith) (c .1) in
+    let f = first-passed (leb (illegalTotal t) (length report)) 11 _ (omega arith) (d .1) in
+    let g = first-passed (eqb (flagOf w) 1) 10 _ (omega arith) (f .1) in
+    let h = first-passed (ltb (samplesOf w) lastSample) 9 _ (omega arith) (g .1) in
     record {
       long = leb-true _ _ (a .0);
       consistent = b .0;

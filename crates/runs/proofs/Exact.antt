@@ -19,10 +19,10 @@ use Rattle.model.proofs.Booleans.{and-left}
 use Rattle.model.proofs.WellFormed.{WellFormed}
 use Rattle.model.proofs.Limits.{all-from}
 use Rattle.model.proofs.TableExact.{read-high}
+use Rattle.model.proofs.Lists.{getD-row}
 use Rattle.arrays.specs.Flat.{readingCode, readingCodes, Readings}
 use Rattle.sequences.proofs.Sequences.{total, nextRuns-append, total-bin}
 use Rattle.runs.specs.Runs.{readingFrom, binRuns, binWords, allRuns}
-use Rattle.runs.proofs.Extra.{getD-from}
 use Rattle.runs.proofs.Codes.{code-known, code-skipped, code-unknown}
 
 -- ---- readings
@@ -47,7 +47,7 @@ module _ (t : Table) (ok : WellFormed t) (w codes : List ℕ) (r : Readings t w 
   code-read p h =
       let f : ℕ → ℕ = λ q. readingCode (reading t w q) in
       let z : 0 + p ≡ p = omega arith in
-      ap readingFrom (sym (getD-take (pointTotal t) codes p 0 h) ∙ ap (λ (l : List ℕ). getD l p 0) (r .codes) ∙ getD-from f 0 (pointTotal t) p h ∙ ap f z)
+      ap readingFrom (sym (getD-take (pointTotal t) codes p 0 h) ∙ ap (λ (l : List ℕ). getD l p 0) (r .codes) ∙ getD-row f 0 (pointTotal t) p 0 h ∙ ap f z)
       ∙ code-exact (guardTrue w (pointAt t p .guard)) (eqb (unknownWord w p) 0) (readValue (pointAt t p) (valueWord w p)) (read-high t ok p (valueWord w p) (in-width p h))
 
 -- ---- runs

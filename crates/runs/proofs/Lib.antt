@@ -1,4 +1,3 @@
-pub mod Extra
 pub mod Codes
 pub mod Turns
 pub mod Written

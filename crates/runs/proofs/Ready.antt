@@ -24,13 +24,13 @@ use Rattle.model.proofs.AccessTransitions.{transitions-access, sequences-access
 use Rattle.model.proofs.WellFormed.{Short, WellFormed, well-formed}
 use Rattle.model.proofs.Measure.{run-total}
 use Rattle.model.proofs.RawExact.{raw-exact}
+use Rattle.model.proofs.Lists.{all-numbered}
 use Rattle.arrays.specs.Put.{put}
 use Rattle.arrays.specs.Flat.{Readings}
 use Rattle.layout.specs.Places.{layoutOf}
 use Rattle.layout.specs.declared.Layout.{Layout as Places}
 use Rattle.sequences.proofs.Sequences.{allLengths-front}
 use Rattle.runs.specs.Runs.{binWords, allRuns, sequenceFits, binFits}
-use Rattle.runs.proofs.Extra.{all-numbered}
 use Rattle.runs.proofs.Exact.{code-read, runs-exact, runs-own}
 
 length-transitions : (s : List ℕ) (b q p r n : ℕ) → length (transitionsAt s b q p r n) ≡ n

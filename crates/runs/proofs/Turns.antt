@@ -14,13 +14,11 @@ use Rattle.model.specs.Sampling.{runLength}
 use Rattle.model.specs.Format.{byte}
 use Rattle.model.specs.Raw.{rows, stepTotal, rangeTotal, stepAt, stepsAt, sequencesAt, transitionAt, transitionsAt}
 use Rattle.model.proofs.Booleans.{and-left, and-right}
+use Rattle.model.proofs.Lists.{one-left, none-left}
 use Rattle.arrays.specs.Put.{put}
-use Rattle.arrays.proofs.PutLaws.{left-suc, put-nil, put-cons}
+use Rattle.arrays.proofs.PutLaws.{put-nil, put-cons}
 use Rattle.sequences.proofs.Places.{length-stepsAt, steps-suc, ranges-suc, ranges-add}
 use Rattle.runs.specs.Runs.{binWords, sequenceFits, binFits, Ends}
-
-none-left : (n i : ℕ) → n ≤ i → n - i ≡ 0
-none-left n i h = omega arith
 
 -- ---- the steps of a sequence
 
@@ -31,7 +29,7 @@ module _ (s : List ℕ) (p : ℕ) where
   steps-turn : (r n i : ℕ) → i < n → stepsAt s (p + 3 * i) r (n - i) ≡ stepAt s (p + 3 * i) r ∷ stepsAt s (p + 3 * (i + 1)) (r + 17 * byte s (p + 3 * i)) (n - (i + 1))
   unfolding stepsAt
   steps-turn r n i h =
-      ap (stepsAt s (p + 3 * i) r) (left-suc n i h)
+      ap (stepsAt s (p + 3 * i) r) (one-left n i h)
       ∙ ap (λ (x : ℕ). stepAt s (p + 3 * i) r ∷ stepsAt s x (r + 17 * byte s (p + 3 * i)) (n - (i + 1))) (let y : p + 3 * i + 3 ≡ p + 3 * (i + 1) = omega arith in y)
 
   -- an array that has f of each step
@@ -56,7 +54,7 @@ module _ (s : List ℕ) (p : ℕ) where
 
   pub ranges-turn : (n i : ℕ) → i < n → rangeTotal s (p + 3 * i) (n - i) ≡ byte s (p + 3 * i) + rangeTotal s (p + 3 * (i + 1)) (n - (i + 1))
   ranges-turn n i h =
-      ap (rangeTotal s (p + 3 * i)) (left-suc n i h)
+      ap (rangeTotal s (p + 3 * i)) (one-left n i h)
       ∙ ranges-suc s (p + 3 * i) (n - (i + 1))
       ∙ ap (λ (x : ℕ). byte s (p + 3 * i) + rangeTotal s x (n - (i + 1))) (let y : p + 3 * i + 3 ≡ p + 3 * (i + 1) = omega arith in y)
 
@@ -99,13 +97,13 @@ module _ (s : List ℕ) (q p r a n : ℕ) where
           ≡ stepsAt s steps ranges k ∷ sequencesAt s (q + (i + 1)) (steps + 3 * k) (ranges + 17 * rangeTotal s steps k) (n - (i + 1))
       unfolding sequencesAt
       sequences-turn =
-          ap (sequencesAt s (q + i) steps ranges) (left-suc n i h)
+          ap (sequencesAt s (q + i) steps ranges) (one-left n i h)
           ∙ ap₂ (λ (x y : ℕ). stepsAt s steps ranges x ∷ sequencesAt s y (steps + 3 * x) (ranges + 17 * rangeTotal s steps x) (n - (i + 1)))
           (sym ek) (let y : q + i + 1 ≡ q + (i + 1) = omega arith in y)
 
       total-turn : stepTotal s (q + i) (n - i) ≡ k + stepTotal s (q + (i + 1)) (n - (i + 1))
       total-turn =
-          ap (stepTotal s (q + i)) (left-suc n i h) ∙ steps-suc s (q + i) (n - (i + 1))
+          ap (stepTotal s (q + i)) (one-left n i h) ∙ steps-suc s (q + i) (n - (i + 1))
           ∙ ap₂ (λ (x y : ℕ). x + stepTotal s y (n - (i + 1))) (sym ek) (let y : q + i + 1 ≡ q + (i + 1) = omega arith in y)
 
       sequence : List Step
@@ -211,7 +209,7 @@ module _ (s : List ℕ) (b q p r a n : ℕ) where
       bin-turn =
           let m = byte s (b + 4 * i + 3) in
           let k = stepTotal s sequence m in
-          ap (transitionsAt s (b + 4 * i) sequence steps ranges) (left-suc n i h)
+          ap (transitionsAt s (b + 4 * i) sequence steps ranges) (one-left n i h)
           ∙ ap (λ (x : ℕ). transitionAt s (b + 4 * i) sequence steps ranges ∷ transitionsAt s x (sequence + m) (steps + 3 * k) (ranges + 17 * rangeTotal s steps k) (n - (i + 1)))
           (let y : b + 4 * i + 4 ≡ b + 4 * (i + 1) = omega arith in y)
 

@@ -4,13 +4,14 @@ use mathlib.Core.Path.{_≡_, refl, sym, ap, ap₂, _∙_}
 use mathlib.Core.List.{List, [], _∷_, _++_}
 use Prim.Native.Nat.{ℕ, _+_, _≤_, _<_}
 use native.Mathlib.Omega.{arith}
-use lib.ListN.{length, getD, set, take, drop, length-append, length-take, length-drop}
+use lib.ListN.{length, getD, set, take, drop, length-append, length-drop}
 use lib.Seq.{drop-drop, length-take-le}
 use Rattle.model.specs.Lists.{sumOf}
 use Rattle.model.specs.Table.{Step, TransitionBin}
 use Rattle.model.specs.Sampling.{Reading, runLength, nextRun}
 use Rattle.model.specs.Raw.{stepsAt}
 use Rattle.model.specs.Register.{binLengths, allLengths}
+use Rattle.model.proofs.Lists.{length-part}
 use Rattle.arrays.specs.Put.{put}
 use Rattle.arrays.proofs.PutLaws.{put-nil, put-next, drop-put}
 use Rattle.sequences.specs.declared.Steps.{Steps}
@@ -33,9 +34,6 @@ piece-turn : (g : List ℕ → List ℕ) (a n : ℕ) (xs w w′ : List ℕ) → 
 piece-turn g a n xs w w′ l h e =
     let d : drop (a + n) w′ ≡ drop n (drop a w) = ap (drop (a + n)) e ∙ drop-put a n xs w l h ∙ sym (drop-drop n a w) in
     ap₂ (λ (y z : List ℕ). put (a + n) (g y) z) d e ∙ put-next a n xs (g (drop n (drop a w))) w l h
-
-length-part : (w : List ℕ) (a n : ℕ) → a + n ≤ length w → length (take n (drop a w)) ≡ n
-length-part w a n h = simp (length-take, length-drop) (omega arith)
 
 pub sequence-turn : (x : Reading) (ss : List Step) (sss : List (List Step)) (a e : ℕ) (w w′ : List ℕ) → e ≡ a + runLength ss → a + runLength ss ≤ length w
     → w′ ≡ put a (nextRun ss (take (runLength ss) (drop a w)) x) w → put e (binRuns x sss (drop e w′)) w′ ≡ put a (binRuns x (ss ∷ sss) (drop a w)) w

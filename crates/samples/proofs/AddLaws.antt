@@ -11,8 +11,7 @@ use lib.Seq.{drop-set-lt}
 use borrow.Author.Tests.{ltb-true}
 use Rattle.model.specs.Lists.{all, pairUp, asBit}
 use Rattle.model.proofs.Booleans.{and-left, and-right}
-use Rattle.arrays.proofs.PutLaws.{part-cons}
-use Rattle.samples.proofs.Extra.{part-end}
+use Rattle.model.proofs.Lists.{part-cons, part-end}
 use Rattle.arrays.specs.Put.{put}
 use Rattle.arrays.proofs.PutLaws.{put-cons, put-nil, put-put}
 use Rattle.samples.specs.Adds.{addHits, hasRoom, allRoom, illegalKind, reported, illegalFlags}

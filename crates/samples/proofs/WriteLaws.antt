@@ -7,7 +7,7 @@ use Prim.Native.Nat.{ℕ, zero, suc, _+_, _-_, _^_, _≤_, _<_}
 use native.Mathlib.Omega.{arith}
 use lib.Dec.{leb, ltb, eqb}
 use lib.Pow.{pow-mono}
-use lib.ListN.{length, take, drop, getD, length-append, length-drop, length-map}
+use lib.ListN.{length, take, drop, getD, length-append, length-drop, length-map, take-append-drop}
 use lib.Seq.{take-at, drop-at, drop-drop, length-take-le}
 use borrow.Author.Tests.{leb-true, ltb-true, ne-eqb}
 use Rattle.model.specs.Lists.{upFrom, keep, pairUp, asBit}
@@ -18,16 +18,33 @@ use Rattle.model.specs.Sampling.{skipped, unknown, known, isUnknown, reading, S
 use Rattle.model.specs.Register.{counterTotal, pointTotal, runTotal, wordsNeeded, illegalTotal, flagOf, samplesOf, countsOf, unknownsOf, runsOf, sequences, nextRuns, allLengths, runStretches, sampledWords, reportWords, sampledReport, longEnough, inWidths}
 use Rattle.model.proofs.Booleans.{and-left}
 use Rattle.model.proofs.Limits.{all-from}
-use Rattle.model.proofs.Runs.{length-upFrom}
 use Rattle.model.proofs.WellFormed.{GoodPoint, WellFormed}
 use Rattle.model.proofs.TableExact.{point-at}
+use Rattle.model.proofs.Lists.{length-upFrom, head-tail, length-keep}
 use Rattle.arrays.specs.Put.{put}
 use Rattle.arrays.specs.Flat.{hitFlags, kindOf, kindsOf, readingCode, readingCodes}
-use Rattle.arrays.proofs.PutLaws.{length-put, put-zero, head-tail}
+use Rattle.arrays.proofs.PutLaws.{length-put, put-zero, put-at}
 use Rattle.sequences.proofs.Sequences.{length-nextRuns}
-use Rattle.samples.proofs.Extra.{put-at, regroup, parts, length-keep}
 use Rattle.samples.specs.Adds.{addHits, isSet, isUnknownCode, allRoom, reported, illegalKind, illegalFlags}
 use Rattle.samples.specs.Writes.{runsAfter, flagsAfter, reportOf, countsAfter, Countable}
+
+-- ---- a list in parts
+
+-- the elements from a on, part by part
+part : {A : Type 0} (l : List A) (a n : ℕ) → drop a l ≡ take n (drop a l) ++ drop (a + n) l
+part l a n = sym (take-append-drop n (drop a l)) ∙ ap (take n (drop a l) ++_) (drop-drop n a l)
+
+regroup : {A : Type 0} (x y z q : List A) → x ++ (y ++ (z ++ q)) ≡ x ++ y ++ z ++ q
+regroup x y z q = sym (append-assoc (x ++ y) z q ∙ append-assoc x y (z ++ q))
+
+parts : {A : Type 0} (l : List A) (a c p r : ℕ) → drop a l ≡ take c (drop a l) ++ take p (drop (a + c) l) ++ take r (drop (a + c + p) l) ++ drop (a + c + p + r) l
+parts l a c p r =
+    let x = take c (drop a l) in
+    let y = take p (drop (a + c) l) in
+    let z = take r (drop (a + c + p) l) in
+    part l a c ∙ ap (x ++_) (part l (a + c) p ∙ ap (y ++_) (part l (a + c + p) r)) ∙ regroup x y z (drop (a + c + p + r) l)
+
+-- ---- lengths
 
 pub length-addHits : (f : ℕ → Bool) (xs ns : List ℕ) → length xs ≡ length ns → length (addHits f xs ns) ≡ length ns
 unfolding addHits pairUp

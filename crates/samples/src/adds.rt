@@ -1,18 +1,11 @@
 // Counts that are raised by what the sample hits.
+use arrays::raised;
 ghost use mathlib.Core.Path.{_≡_};
 ghost use mathlib.Core.Bool.{true};
 ghost use Prim.Native.Nat.{_<_, _≤_, _+_};
 ghost use lib.ListN.{length, take, drop};
-ghost use Rattle.model.specs.Lists.{asBit};
 ghost use Rattle.arrays.specs.Put.{put};
 ghost use Rattle.samples.specs.Adds.{addHits, isSet, isUnknownCode, allRoom};
-
-fn raised(n: u32, hit: bool) -> u32
-    requires { ⌜ n < 4294967295 ⌝ }
-    ensures { λ r. ⌜ r ≡ asBit hit + n ⌝ }
-{
-    if hit { n + 1 } else { n }
-}
 
 // Each of n counts from at on is raised by its flag.
 pub fn add_flags(register: &mut [u32], at: usize, flags: &[u8], n: usize)

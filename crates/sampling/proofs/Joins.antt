@@ -2,8 +2,8 @@
 -- Assumes nothing.
 use mathlib.Core.Path.{_≡_, refl, sym, ap, _∙_}
 use mathlib.Core.Bool.{true}
-use mathlib.Core.List.{List, [], _∷_, _++_, map}
-use Prim.Native.Nat.{ℕ, zero, suc, _+_, _≤_}
+use mathlib.Core.List.{List, _++_, map, map-append}
+use Prim.Native.Nat.{ℕ, suc, _+_, _≤_}
 use native.Mathlib.Nat.{zero-add}
 use native.Mathlib.Numerals.{add-one}
 use native.Mathlib.Omega.{arith}
@@ -17,14 +17,14 @@ use Rattle.model.specs.Format.{accepted, tableOf}
 use Rattle.model.specs.Register.{pointTotal}
 use Rattle.model.proofs.Sections.{acceptance, accepted-decodes}
 use Rattle.model.proofs.Access.{points-access}
-use Rattle.model.proofs.Runs.{length-upFrom}
 use Rattle.model.proofs.Measure.{size-concat}
 use Rattle.model.proofs.MeasureBounds.{point-counters, counters-few}
+use Rattle.model.proofs.Lists.{length-upFrom}
 use Rattle.arrays.specs.Put.{put}
-use Rattle.arrays.specs.Flat.{hitFlags, totalFlags, kindsOf, kindOf, itemsOf, allPointCounters, allCrossCounters, pointStart, pointStarts, Tells, coverCounts, covers}
+use Rattle.arrays.specs.Flat.{hitFlags, totalFlags, kindsOf, kindOf, itemsOf, allPointCounters, allCrossCounters, pointStart, pointStarts, Tells, coverCounts}
 use Rattle.points.specs.Gates.{Kinded, Flagged, Gathered}
 use Rattle.arrays.proofs.PutLaws.{put-next, front-put}
-use Rattle.values.proofs.FlagsExact.{map-append}
+use Rattle.arrays.proofs.FlatLaws.{counts-length, kinds-length}
 
 joined : {A : Type 0} (f : Counter → A) (xs ys : List Counter) (n : ℕ) (l m r : List A) → n ≡ length xs → n ≤ length l
     → m ≡ put 0 (map f xs) l → r ≡ put n (map f ys) m → r ≡ put 0 (map f (xs ++ ys)) l
@@ -90,14 +90,6 @@ pub length-starts : (t : Table) → length (pointStarts t) ≡ pointTotal t + 1
 unfolding pointStarts
 length-starts t = length-map (upFrom 0 (suc (pointTotal t))) (pointStart t) ∙ length-upFrom 0 (suc (pointTotal t)) ∙ sym (add-one (pointTotal t))
 
-pub length-counts : (t : Table) → length (coverCounts t) ≡ pointTotal t
-unfolding coverCounts
-length-counts t = length-map (upFrom 0 (pointTotal t)) (λ p. length (covers t p)) ∙ length-upFrom 0 (pointTotal t)
-
-pub length-kinds : (cs : List Counter) → length (kindsOf cs) ≡ length cs
-unfolding kindsOf
-length-kinds cs = length-map cs kindOf
-
 pub length-hits : (t : Table) (w : List ℕ) (m : Stretches) (cs : List Counter) → length (hitFlags t w m cs) ≡ length cs
 unfolding hitFlags
 length-hits t w m cs = length-map cs (λ c. asBit (hits t w m c))
@@ -108,12 +100,12 @@ starts-stand s l r a e h = let t = tableOf s in let k : pointTotal t + 1 ≤ len
 
 pub counts-stand : (s : List ℕ) (l r : List ℕ) → accepted s ≡ true → r ≡ put 0 (coverCounts (tableOf s)) l → 16 ≤ length l
     → take (pointTotal (tableOf s)) r ≡ coverCounts (tableOf s)
-counts-stand s l r a e h = let t = tableOf s in let k : pointTotal t ≤ length l = omega (arith, sixteen s a) in ap (take (pointTotal t)) e ∙ front-put (pointTotal t) (coverCounts t) l (length-counts t) k
+counts-stand s l r a e h = let t = tableOf s in let k : pointTotal t ≤ length l = omega (arith, sixteen s a) in ap (take (pointTotal t)) e ∙ front-put (pointTotal t) (coverCounts t) l (counts-length t) k
 
 pub kinds-stand : (s : List ℕ) (l r : List ℕ) → accepted s ≡ true → r ≡ put 0 (kindsOf (allPointCounters (tableOf s))) l → 4096 ≤ length l
     → Kinded (tableOf s) r
 unfolding Kinded
-kinds-stand s l r a e h = let t = tableOf s in let k : pointCount t ≤ length l = omega (arith, points-few s a) in ap (take (pointCount t)) e ∙ front-put (pointCount t) (kindsOf (allPointCounters t)) l (length-kinds (allPointCounters t)) k
+kinds-stand s l r a e h = let t = tableOf s in let k : pointCount t ≤ length l = omega (arith, points-few s a) in ap (take (pointCount t)) e ∙ front-put (pointCount t) (kindsOf (allPointCounters t)) l (kinds-length (allPointCounters t)) k
 
 -- from the flags that a sample raises at the points, the gates are the cover bins that it hits
 pub gates-stand : (s w : List ℕ) (m : Stretches) (l r gate : List ℕ) → accepted s ≡ true → r ≡ put 0 (hitFlags (tableOf s) w m (allPointCounters (tableOf s))) l → 4096 ≤ length l

@@ -1,9 +1,9 @@
 -- The value of tokens that are one expression is whether the expression selects the product.
 -- Assumes nothing.
-use mathlib.Core.Path.{_≡_, refl, ap, ap₂, sym, _∙_, subst}
-use mathlib.Core.Bool.{Bool, true, false, not, _&&_, _||_, cond}
+use mathlib.Core.Path.{_≡_, refl, ap, sym, _∙_, subst}
+use mathlib.Core.Bool.{Bool, true, not, _&&_, _||_}
 use mathlib.Core.List.{List, [], _∷_, _++_, append-assoc, append-nil}
-use mathlib.Core.Option.{Option, some}
+use mathlib.Core.Option.{some}
 use Prim.Native.Nat.{ℕ, zero, suc, _+_, _*_, _-_, _≤_, _<_}
 use native.Mathlib.Omega.{arith}
 use lib.ListN.{length, getD, length-append}
@@ -19,8 +19,9 @@ use Rattle.model.specs.Raw.{rows, selectAt}
 use Rattle.model.proofs.RawLaws.{length-rows}
 use Rattle.model.proofs.Readers.{All}
 use Rattle.model.proofs.Prefix.{LeafToken, expressions-exact}
+use Rattle.model.proofs.RunBits.{asBit-eqb}
 use Rattle.selects.specs.declared.expressions.Answer.{Answer}
-use Rattle.selects.specs.Evaluator.{answer, joined, evalAt, valueOf}
+use Rattle.selects.specs.Evaluator.{answer, evalAt, valueOf}
 use Rattle.selects.specs.Single.{Single}
 use Rattle.selects.specs.Told.{LeafTold, ToldBy, LeavesTold, LeavesToldIn, leafBit, leafAt}
 
@@ -73,10 +74,6 @@ rows-leaves s zero at = tt
 rows-leaves s (suc n) at = (from-leaf (byte s at) _ _ _ _, rows-leaves s n (at + 20))
 
 -- ---- lists
-
-bit-is : (b : Bool) → eqb (asBit b) 1 ≡ b
-bit-is true = refl
-bit-is false = refl
 
 -- the rows after some of them
 rows-after : {A : Type 0} (says : ℕ → A) (size : ℕ) (xs ys : List A) (at n : ℕ) → rows says size at n ≡ xs ++ ys → rows says size (at + size * length xs) (n - length xs) ≡ ys
@@ -198,7 +195,7 @@ leaf-told : (sel : Select → Bool) (s truth : List ℕ) (k n : ℕ) → ToldBy 
 unfolding ToldBy
 leaf-told sel s truth k n told i h e z =
     let q : getD truth i 0 ≡ asBit (sel e) = subst (λ (x : Token). LeafTold sel x (getD truth i 0)) z (told i h) in
-    ap (λ (x : ℕ). eqb x 1) q ∙ bit-is (sel e)
+    ap (λ (x : ℕ). eqb x 1) q ∙ asBit-eqb (sel e)
 
 module _ (t : Table) (cs : List CoverBin) (s truth : List ℕ) (k n : ℕ) where
   pub value-selects : LeavesTold t cs s truth k n → (e : Select) → expressions (rows (tokenRecord s) 20 k n) ≡ some (e ∷ []) → valueOf s truth k n ≡ selects t e cs

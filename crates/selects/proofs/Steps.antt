@@ -1,15 +1,15 @@
 -- Steps from product to product.
 -- Assumes nothing.
-use mathlib.Core.Path.{_≡_, refl, ap, ap₂, sym, _∙_, subst}
+use mathlib.Core.Path.{_≡_, refl, ap, sym, _∙_}
 use mathlib.Core.Bool.{Bool, true, false, cond}
-use mathlib.Core.List.{List, [], _∷_, _++_, map}
+use mathlib.Core.List.{List, [], _∷_}
 use Prim.Native.Nat.{ℕ, zero, suc, _+_, _*_, _-_, _/_, _%_, _≤_, _<_}
 use native.Mathlib.Nat.{div-add-mod', mod-lt, zero-div, zero-mod}
 use native.Mathlib.Omega.{arith}
 use lib.Arith.{digits-div, digits-mod}
 use lib.Dec.{ltb, eqb}
-use lib.ListN.{length, getD, set, take, drop, length-set, length-take}
-use lib.Seq.{drop-cons, getD-set-same, getD-set-other, getD-take, ext-getD}
+use lib.ListN.{length, getD, set, take, drop, length-set}
+use lib.Seq.{drop-cons, getD-set-same, getD-set-other, getD-take, ext-getD, length-take-le}
 use borrow.Author.Tests.{ltb-true, ltb-false, eqb-true, eqb-false}
 use Rattle.selects.specs.Products.{many, turns, digits}
 use Rattle.selects.specs.Odometer.{stepFrom, atFirst, afterStep, StandsAt}
@@ -61,7 +61,7 @@ module _ (y n : ℕ) where
       let z : y + 1 ≡ (y / n + 1) * n + 0 = omega (arith, div-add-mod' y n) in
       (ap (λ (x : ℕ). x / n) z ∙ digits-div (y / n + 1) p, ap (λ (x : ℕ). x % n) z ∙ digits-mod (y / n + 1) p)
 
-size-pos : (ns : List ℕ) → 1 ≤ many ns → (p : ℕ) → p < length ns → 1 ≤ getD ns p 0
+pub size-pos : (ns : List ℕ) → 1 ≤ many ns → (p : ℕ) → p < length ns → 1 ≤ getD ns p 0
 unfolding many
 size-pos [] h p k = absurd (let z : p < 0 = k in omega arith)
 size-pos (n ∷ ns) h zero k = some-left n (many ns) h .0
@@ -157,9 +157,6 @@ length-step (suc j) ns ds = go (ltb (getD ds j 0 + 1) (getD ns j 0)) (length-ste
     go true ih = length-set ds j (getD ds j 0 + 1)
     go false ih = ih ∙ length-set ds j 0
 
-length-part : (n : ℕ) (l : List ℕ) → n ≤ length l → length (take n l) ≡ n
-length-part n l h = omega (arith, length-take n l)
-
 -- after a step the walk stands at the product after
 pub next-stands : (w : Walk) (i : ℕ) → 1 ≤ many (take (w .count) (w .size)) → StandsAt w i → StandsAt (afterStep w) (i + 1)
 unfolding afterStep Step Before After
@@ -168,7 +165,7 @@ next-stands w i pos h =
     let sz = take n (w .size) in
     let ds = w .digit in
     let ss = stepFrom n (w .size) ds in
-    let many-parts : length sz ≡ n = length-part n (w .size) (h .sizes) in
+    let many-parts : length sz ≡ n = length-take-le n (w .size) (h .sizes) in
     let long : n ≤ length ss = omega (arith, h .places, length-step n (w .size) ds) in
     let carry : turns (drop n sz) (i + 1) ≡ turns (drop n sz) i + 1 =
     ap (λ (x : ℕ). turns (drop x sz) (i + 1)) (sym many-parts) ∙ sym (turns-start sz (i + 1))
@@ -180,8 +177,8 @@ next-stands w i pos h =
     record {
       sizes = h .sizes;
       places = long;
-      at = ext-getD 0 (take n ss) (digits sz (i + 1)) (length-part n ss long ∙ sym (length-digits sz (i + 1) ∙ many-parts))
-          (λ p q. let r : p < n = omega (arith, length-part n ss long) in getD-take n ss p 0 r ∙ stepped p (omega arith) (omega arith));
+      at = ext-getD 0 (take n ss) (digits sz (i + 1)) (length-take-le n ss long ∙ sym (length-digits sz (i + 1) ∙ many-parts))
+          (λ p q. let r : p < n = omega (arith, length-take-le n ss long) in getD-take n ss p 0 r ∙ stepped p (omega arith) (omega arith));
     }
 
 turns-zero : (ns : List ℕ) → turns ns 0 ≡ 0
@@ -206,10 +203,10 @@ pub first-stands : (count : ℕ) (ns : List ℕ) → count ≤ 4 → count ≤ l
 first-stands count ns h k =
     let zs : List ℕ = 0 ∷ 0 ∷ 0 ∷ 0 ∷ [] in
     let sz = take count ns in
-    let l : length (take count zs) ≡ count = length-part count zs h in
+    let l : length (take count zs) ≡ count = length-take-le count zs h in
     record {
       sizes = k;
       places = h;
-      at = ext-getD 0 (take count zs) (digits sz 0) (l ∙ sym (length-digits sz 0 ∙ length-part count ns k))
+      at = ext-getD 0 (take count zs) (digits sz 0) (l ∙ sym (length-digits sz 0 ∙ length-take-le count ns k))
           (λ p q. let r : p < count = omega (arith, l) in getD-take count zs p 0 r ∙ no-digit p ∙ sym (digits-zero sz p));
     }

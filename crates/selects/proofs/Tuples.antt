@@ -4,13 +4,14 @@ use mathlib.Core.Path.{_≡_, refl, ap, ap₂, sym, _∙_}
 use mathlib.Core.List.{List, [], _∷_, _++_, map}
 use Prim.Native.Nat.{ℕ, zero, suc, _+_, _*_, _-_, _/_, _%_, _≤_, _<_}
 use native.Mathlib.Nat.{mul-assoc, div-add-mod', mod-lt, mod-eq-of-lt, div-eq-of-lt, div-lt-iff-lt-mul, mul-add-div-right, mul-add-mod-self-right}
-use native.Mathlib.Numerals.{add-one}
 use native.Mathlib.Omega.{arith}
-use lib.ListN.{length, getD, drop, length-append, length-map, List·getD-append}
+use lib.ListN.{length, getD, drop, length-map, List·getD-append}
 use lib.Seq.{getD-append-add, drop-cons}
 use Rattle.model.specs.Lists.{concatOf}
 use Rattle.model.specs.Table.{Table}
 use Rattle.model.specs.Counters.{CoverBin, noCoverBin, tuples, crossParts, products, productOf, productCount}
+use Rattle.model.proofs.Lists.{getD-map}
+use Rattle.model.proofs.Limits.{each-length}
 use Rattle.selects.specs.Products.{many, turns, digits, pick}
 
 -- ---- digits
@@ -51,17 +52,6 @@ digits-add (n ∷ ns) h q r =
 
 -- ---- tuples
 
-getD-map-in : {A B : Type 0} (f : A → B) (xs : List A) (i : ℕ) (d : A) (d′ : B) → i < length xs → getD (map f xs) i d′ ≡ f (getD xs i d)
-getD-map-in f [] i d d′ h = absurd (let z : i < 0 = h in omega arith)
-getD-map-in f (x ∷ xs) zero d d′ h = refl
-getD-map-in f (x ∷ xs) (suc i) d d′ h = getD-map-in f xs i d d′ (omega arith)
-
-pub each-length : (cs : List CoverBin) (tails : List (List CoverBin)) → length (concatOf (λ c. map (c ∷_) tails) cs) ≡ length cs * length tails
-unfolding concatOf
-each-length [] tails = omega arith
-each-length (c ∷ cs) tails =
-    length-append (map (c ∷_) tails) (concatOf (λ c. map (c ∷_) tails) cs) ∙ ap₂ _+_ (length-map tails (c ∷_)) (each-length cs tails) ∙ omega arith
-
 pub tuples-many : (css : List (List CoverBin)) → length (tuples css) ≡ many (map length css)
 unfolding tuples many
 tuples-many [] = refl
@@ -82,7 +72,7 @@ block-at tails (c ∷ cs) zero r h k =
     let l : r < length (map (c ∷_) tails) = rw (length-map tails (c ∷_)) k in
     ap (λ (x : ℕ). getD (map (c ∷_) tails ++ concatOf (λ c. map (c ∷_) tails) cs) x []) z
     ∙ List·getD-append (map (c ∷_) tails) (concatOf (λ c. map (c ∷_) tails) cs) [] r l
-    ∙ getD-map-in (c ∷_) tails r [] [] k
+    ∙ getD-map (c ∷_) tails r [] [] k
 block-at tails (c ∷ cs) (suc q) r h k =
     let z : suc q * length tails + r ≡ length (map (c ∷_) tails) + (q * length tails + r) = omega (arith, length-map tails (c ∷_)) in
     ap (λ (x : ℕ). getD (map (c ∷_) tails ++ concatOf (λ c. map (c ∷_) tails) cs) x []) z

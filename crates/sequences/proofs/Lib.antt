@@ -1,5 +1,3 @@
--- laws of lists, of `put`, and of words together
-pub mod Extra
 -- the code's words are the model's
 pub mod NextSteps
 -- what a turn of each loop does

@@ -12,11 +12,12 @@ use lib.Seq.{take-append-le, take-at, drop-append-le, length-take-le, getD-take,
 use Rattle.model.specs.Lists.{sumOf, orAll}
 use Rattle.model.specs.Table.{Step}
 use Rattle.model.specs.Sampling.{Reading, inStep, runLength, longer, complete, nextSteps, matchedLengths}
+use Rattle.model.proofs.Lists.{drop-replicate}
 use Rattle.sequences.specs.declared.Steps.{Steps}
 use Rattle.sequences.specs.Described.{sumFirst, wordsOf, Fits, Shaped, Describes}
 use Rattle.sequences.specs.Words.{stepWords, completeFrom, stepsWords, padded}
 use Rattle.arrays.specs.Put.{put}
-use Rattle.arrays.proofs.PutLaws.{put-zero, drop-replicate, part-back}
+use Rattle.arrays.proofs.PutLaws.{put-zero, part-back}
 
 leasts : List Step → List ℕ
 leasts ss = map (λ s. s .least) ss

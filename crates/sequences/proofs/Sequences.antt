@@ -7,17 +7,18 @@ use mathlib.Core.List.{List, [], _∷_, _++_, map, append-assoc}
 use Prim.Native.Nat.{ℕ, _+_, _≤_, _<_}
 use native.Mathlib.Omega.{arith}
 use lib.Bits.{bitOr, or-zero-r}
-use lib.ListN.{length, take, drop, set, length-append, length-take, length-drop, length-map}
+use lib.ListN.{length, take, drop, set, length-append, length-drop, length-map}
 use lib.Seq.{drop-drop, take-at, drop-at, take-append-le, drop-append-le, length-take-le}
 use Rattle.model.specs.Lists.{sumOf}
 use Rattle.model.specs.Table.{Step, TransitionBin, Table}
 use Rattle.model.specs.Sampling.{Reading, skipped, unknown, known, isSkipped, inStep, reading, runLength, nextSteps, nextRun, matchedLengths}
 use Rattle.model.specs.Register.{Sequence, binSequences, nextRuns, binLengths, allLengths}
+use Rattle.model.proofs.RunBits.{or-assoc}
+use Rattle.model.proofs.Lists.{length-part}
 use Rattle.sequences.specs.declared.Steps.{Steps}
 use Rattle.sequences.specs.Described.{Shaped, Describes}
 use Rattle.arrays.specs.Put.{put}
 use Rattle.arrays.proofs.PutLaws.{put-nil, put-cons, put-next, drop-put, put-zero, put-same}
-use Rattle.sequences.proofs.Extra.{or-assoc}
 use Rattle.sequences.proofs.NextSteps.{length-nextSteps}
 
 -- ---- arrays that were filled
@@ -56,10 +57,6 @@ length-nextRun ss run skipped e = e
 length-nextRun ss run unknown e = length-nextSteps ss run 1 unknown (omega arith)
 length-nextRun ss run (known v) e = length-nextSteps ss run 1 (known v) (omega arith)
 
--- a sequence's own words in w
-own-length : (w : List ℕ) (a n : ℕ) → a + n ≤ length w → length (take n (drop a w)) ≡ n
-own-length w a n h = simp (length-take, length-drop) (omega arith)
-
 -- what `advance` wrote is the next run
 pub advance-run : (ss : List Step) (r : Reading) (a : ℕ) (w w′ : List ℕ) → a + runLength ss ≤ length w → isSkipped r ≡ false
     → w′ ≡ take a w ++ nextSteps ss (take (runLength ss) (drop a w)) 1 r ++ drop (a + runLength ss) w
@@ -67,7 +64,7 @@ pub advance-run : (ss : List Step) (r : Reading) (a : ℕ) (w w′ : List ℕ) �
 unfolding put
 advance-run ss r a w w′ h k e =
     let own = take (runLength ss) (drop a w) in
-    let n : length own ≡ runLength ss = own-length w a (runLength ss) h in
+    let n : length own ≡ runLength ss = length-part w a (runLength ss) h in
     let l : length (nextSteps ss own 1 r) ≡ runLength ss = length-nextSteps ss own 1 r (omega arith) in
     e ∙ ap (λ (x : ℕ). take a w ++ nextSteps ss own 1 r ++ drop (a + x) w) (sym l) ∙ ap (λ (xs : List ℕ). put a xs w) (sym (nextRun-read ss own r k))
 
@@ -92,7 +89,7 @@ module _ (t : Table) (s : List ℕ) where
   runs-turn q qs a w w′ h e =
       let n = runLength (q .steps) in
       let xs = nextRun (q .steps) (take n (drop a w)) (reading t s (q .point)) in
-      let l : length xs ≡ n = length-nextRun (q .steps) (take n (drop a w)) (reading t s (q .point)) (own-length w a n h) in
+      let l : length xs ≡ n = length-nextRun (q .steps) (take n (drop a w)) (reading t s (q .point)) (length-part w a n h) in
       let d : drop (a + n) w′ ≡ drop n (drop a w) = ap (drop (a + n)) e ∙ drop-put a n xs w l h ∙ sym (drop-drop n a w) in
       rw (d, e) (put-next a n xs (nextRuns t s qs (drop n (drop a w))) w l h)
 

@@ -6,34 +6,36 @@ use mathlib.Core.List.{List, [], _∷_}
 use Prim.Native.Nat.{ℕ, _+_, _-_, _≤_, _<_}
 use native.Mathlib.Omega.{arith}
 use lib.Bits.{bitOr, or-zero-r}
-use lib.ListN.{length, take, drop, getD, set, length-take, length-drop, drop-of-length-le}
+use lib.ListN.{length, take, drop, getD, set, drop-of-length-le}
 use lib.Seq.{getD-take, getD-drop, drop-drop}
 use Rattle.model.specs.Lists.{orAll}
 use Rattle.model.specs.Sampling.{longer}
+use Rattle.model.proofs.Lists.{head-tail, one-left, length-part}
+use Rattle.model.proofs.RunBits.{or-assoc}
 use Rattle.sequences.specs.Described.{sumFirst}
 use Rattle.sequences.specs.Words.{stepWords, completeFrom, stepsWords}
 use Rattle.arrays.specs.Put.{put}
-use Rattle.arrays.proofs.PutLaws.{head-tail, left-suc, put-nil, put-cons, put-next}
-use Rattle.sequences.proofs.Extra.{orAll-turn}
+use Rattle.arrays.proofs.PutLaws.{put-nil, put-cons, put-next}
 use Rattle.sequences.proofs.NextSteps.{length-stepWords}
 
 -- ---- complete
 
--- `most` words from `at` on
-part-length : (ws : List ℕ) (at most : ℕ) → at + most ≤ length ws → length (take most (drop at ws)) ≡ most
-part-length ws at most h = simp (length-take, length-drop) (omega arith)
+-- the word at j is taken in, and those after it are left
+orAll-turn : (ws : List ℕ) (out j : ℕ) → j < length ws → bitOr (bitOr out (getD ws j 0)) (orAll (drop (j + 1) ws)) ≡ bitOr out (orAll (drop j ws))
+unfolding orAll
+orAll-turn ws out j h = rw (head-tail ws j 0 h) (or-assoc out (getD ws j 0) (orAll (drop (j + 1) ws)))
 
 pub complete-turn : (ws : List ℕ) (at most out j : ℕ) → at + most ≤ length ws → j < most
     → bitOr (bitOr out (getD ws (at + j) 0)) (orAll (drop (j + 1) (take most (drop at ws)))) ≡ bitOr out (orAll (drop j (take most (drop at ws))))
 complete-turn ws at most out j h k =
-    let n = part-length ws at most h in
+    let n = length-part ws at most h in
     let e : getD (take most (drop at ws)) j 0 ≡ getD ws (at + j) 0 = getD-take most (drop at ws) j 0 k ∙ getD-drop at ws j 0 in
     rw (← e) (orAll-turn (take most (drop at ws)) out j (omega arith))
 
 pub complete-end : (ws : List ℕ) (at most out j : ℕ) → at + most ≤ length ws → most ≤ j → bitOr out (orAll (drop j (take most (drop at ws)))) ≡ out
 unfolding orAll
 complete-end ws at most out j h k =
-    let n = part-length ws at most h in
+    let n = length-part ws at most h in
     let z : drop j (take most (drop at ws)) ≡ [] = drop-of-length-le (take most (drop at ws)) (let g : length (take most (drop at ws)) ≤ j = omega arith in g) in
     rw z (or-zero-r out)
 
@@ -44,7 +46,7 @@ left-words : (old : List ℕ) (at most j : ℕ) → j < most → at + j < length
     → take (most - j) (drop (at + j) old) ≡ getD old (at + j) 0 ∷ take (most - (j + 1)) (drop (at + (j + 1)) old)
 left-words old at most j h k =
     let e : at + (j + 1) ≡ (at + j) + 1 = omega arith in
-    rw (e, left-suc most j h, head-tail old (at + j) 0 k)
+    rw (e, one-left most j h, head-tail old (at + j) 0 k)
 
 pub words-turn : (old words : List ℕ) (at most j next v : ℕ) (b : Bool) → j < most → at + j < length old → at + j < length words → v ≡ cond b next 0
     → put (at + (j + 1)) (stepWords b (longer (getD old (at + j) 0)) (take (most - (j + 1)) (drop (at + (j + 1)) old))) (set words (at + j) v)
@@ -67,7 +69,7 @@ words-end old words at most j next b h =
 
 pub sum-turn : (n s : ℕ) (ms : List ℕ) → s < n → s < length ms → sumFirst (n - s) (drop s ms) ≡ getD ms s 0 + sumFirst (n - (s + 1)) (drop (s + 1) ms)
 unfolding sumFirst
-sum-turn n s ms h k = rw (left-suc n s h, head-tail ms s 0 k)
+sum-turn n s ms h k = rw (one-left n s h, head-tail ms s 0 k)
 
 pub sum-end : (n s : ℕ) (ms : List ℕ) → n ≤ s → sumFirst (n - s) (drop s ms) ≡ 0
 unfolding sumFirst
@@ -87,8 +89,8 @@ unfolding stepsWords
 steps-turn n s at enter enter′ ls ms bs old words words′ h hl hm hb ho hw e₁ e₂ =
     let m = getD ms s 0 in
     let xs = stepWords (getD bs s false) enter (take m (drop at old)) in
-    let len : length xs ≡ m = length-stepWords _ _ _ ∙ part-length old at m ho in
-    rw (left-suc n s h, head-tail ls s 0 hl, head-tail ms s 0 hm, head-tail bs s false hb, e₁, e₂, ← drop-drop m at old)
+    let len : length xs ≡ m = length-stepWords _ _ _ ∙ length-part old at m ho in
+    rw (one-left n s h, head-tail ls s 0 hl, head-tail ms s 0 hm, head-tail bs s false hb, e₁, e₂, ← drop-drop m at old)
     (put-next at m xs _ words len (omega arith))
 
 pub steps-end : (n s at enter : ℕ) (ls ms : List ℕ) (bs : List Bool) (ws words : List ℕ) → n ≤ s → put at (stepsWords (n - s) ls ms bs enter ws) words ≡ words

@@ -14,8 +14,8 @@ use Rattle.model.proofs.RawTransitions.{transition-bins-raw}
 use Rattle.words.specs.Verdicts.{verdictOf}
 use Rattle.words.specs.declared.verdicts.Verdict.{Verdict}
 use Rattle.words.proofs.Chain.{bind-stop, bind-done, says-sound, says-in, says-on}
+use Rattle.words.specs.Points.{PointsBelow}
 use Rattle.ranges.specs.Types.{AllWide}
-use Rattle.check_values.specs.Places.{AllKnown}
 use Rattle.check_values.proofs.Sound.{points-counted, points-wide, bins-known}
 use Rattle.table.specs.Check.{afterBins}
 
@@ -102,7 +102,7 @@ module _ (s : List ℕ) (p : Verdict) (ep : p ≡ verdictOf (readPointSection s 
             let a = g .1 in
             (omega arith, l)
 
-        pub known : AllKnown s np (p .at + 2) nb
+        pub known : PointsBelow s 8 (p .at + 2) nb np
         known = rw em (bins-known s np (p .at) (rows (binHead s) 8 (p .at + 2) nb) (p .at + 2 + 8 * nb) (bins-got .0))
 
         pub bins-on : (y : Verdict) → y ≡ verdictOf (afterBins s (pointsAt s 2 np) (rows (binHead s) 8 (p .at + 2) nb) (b .at)) → y ≡ verdictOf (readTable s 0)

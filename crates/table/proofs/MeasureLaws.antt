@@ -8,11 +8,11 @@ use native.Mathlib.Omega.{arith}
 use lib.ListN.{length}
 use Rattle.model.specs.Table.{Table}
 use Rattle.model.specs.Counters.{withinLimits}
-use Rattle.model.specs.Format.{u16, FaultClass, tooLong, cut, count, value, unused, field, disagreement, leftover, limits, Fault, Outcome, rejected, decoded, decode, numberOf, sectionOf}
+use Rattle.model.specs.Format.{u16, Outcome, rejected, decoded, decode, sectionOf}
 use Rattle.model.specs.Raw.{countPlace, recordCount, rawTable}
 use Rattle.model.specs.Register.{counterTotal, pointTotal, runTotal, wordsNeeded, illegalTotal, measured, section}
 use Rattle.model.specs.Register as Model
-use Rattle.model.proofs.Sections.{acceptance}
+use Rattle.model.proofs.Sections.{acceptance, some-number}
 use Rattle.model.proofs.RawExact.{raw-exact, sections-whole}
 use Rattle.model.proofs.MeasureBounds.{points-few, counters-few, runs-few, illegals-few}
 use Rattle.words.specs.declared.verdicts.Verdict.{Verdict}
@@ -55,17 +55,6 @@ few-facts s = go (decode s) refl
 pub few-of : (s : List ℕ) (f : Facts) → f ≡ factsOf s → Few f
 few-of s f e = subst Few (sym e) (few-facts s)
 
-number-some : (c : FaultClass) → numberOf c ≡ 0 → ⊥
-number-some tooLong e = omega arith
-number-some cut e = omega arith
-number-some count e = omega arith
-number-some value e = omega arith
-number-some unused e = omega arith
-number-some field e = omega arith
-number-some disagreement e = omega arith
-number-some leftover e = omega arith
-number-some limits e = omega arith
-
 -- measuring, by the facts
 module _ (s : List ℕ) (f : Facts) (e : f ≡ factsOf s) where
   pub measured-whole : f .number ≡ 0 → answer 0 (2 + f .counters + f .points + f .runs) (f .illegals) ≡ measureOf s
@@ -73,7 +62,7 @@ module _ (s : List ℕ) (f : Facts) (e : f ≡ factsOf s) where
   measured-whole z = go (decode s) e
     where
       go : (o : Outcome) → f ≡ factsFrom o → answer 0 (2 + f .counters + f .points + f .runs) (f .illegals) ≡ answer (measured o .number) (measured o .words) (measured o .illegals)
-      go (rejected x) d = absurd (number-some (x .class) (sym (ap (λ (f : Facts). f .number) d) ∙ z))
+      go (rejected x) d = absurd (some-number (x .class) (sym (ap (λ (f : Facts). f .number) d) ∙ z))
       go (decoded t) d = ap (λ (f : Facts). answer 0 (2 + f .counters + f .points + f .runs) (f .illegals)) d
 
   pub measured-refused : (f .number ≡ 0 → ⊥) → answer (f .number) 0 0 ≡ measureOf s

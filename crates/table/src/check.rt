@@ -17,7 +17,7 @@ ghost use Rattle.model.specs.Format.{binHead, readTable};
 ghost use Rattle.model.specs.Raw.{rows, pointsAt};
 ghost use Rattle.words.specs.Verdicts.{verdictOf};
 ghost use Rattle.ranges.specs.Types.{AllWide};
-ghost use Rattle.check_values.specs.Places.{AllKnown};
+ghost use Rattle.words.specs.Points.{PointsBelow};
 ghost use Rattle.table.specs.Check.{afterBins, checked, numberFor, ExaminedOf};
 
 // The table's verdict; and what it counts, if there is no fault.
@@ -29,7 +29,7 @@ pub struct Examined {
 // Sections 3 to 10: np points from byte 2 on, nb bins from bins on; section 3's count stands at at.
 fn after_bins(t: &[u8], np: usize, bins: usize, nb: usize, at: usize) -> Verdict
     requires { ⌜ (at ≤ length (now t)) × (2 + 11 * np ≤ length (now t)) × (bins + 8 * nb ≤ length (now t)) × (length (now t) ≤ 65536) × (np ≤ 16) ⌝ }
-    requires { ⌜ AllWide (now t) 2 np × AllKnown (now t) np bins nb ⌝ }
+    requires { ⌜ AllWide (now t) 2 np × PointsBelow (now t) 8 bins nb np ⌝ }
     ensures { λ r. ⌜ r ≡ verdictOf (afterBins (now (t .entry)) (pointsAt (now (t .entry)) 2 np) (rows (binHead (now (t .entry))) 8 bins nb) at) ⌝ }
 {
     let r = range_section(t, 2, np, bins, nb, at);

@@ -2,7 +2,7 @@
 -- x is the answer from the loop's start; its invariant says that it is the answer of what is left.
 -- Assumes nothing.
 use Prim.Native.Nat.{ℕ, zero, suc, _+_, _*_, _-_, _<_, _≤_}
-use mathlib.Core.Path.{_≡_, refl, ap, ap₂, sym, _∙_}
+use mathlib.Core.Path.{_≡_, refl, ap, sym, _∙_}
 use mathlib.Core.Bool.{Bool, true, false, cond}
 use mathlib.Core.List.{List, [], _∷_, _++_}
 use native.Mathlib.Nat.{sub-zero}
@@ -11,9 +11,10 @@ use lib.Dec.{leb}
 use lib.ListN.{length}
 use borrow.Author.Needs.{needs}
 use borrow.Author.Tests.{leb-true}
-use Rattle.model.specs.Format.{FaultClass, tooLong, cut, count, value, unused, field, disagreement, leftover, limits, Fault, Read, refused, got, Reader, Test, tested, andThen, _>>=_, done, times, each, readRecord}
+use Rattle.model.specs.Format.{FaultClass, tooLong, cut, count, value, unused, field, disagreement, leftover, limits, Read, refused, got, Reader, Test, tested, andThen, done, times, each, readRecord}
 use Rattle.model.specs.Lists.{sumOf}
 use Rattle.model.specs.Raw.{rows}
+pub use Rattle.model.proofs.Lists.{none-left, one-left}
 use Rattle.words.specs.Sums.{sumFrom}
 use Rattle.words.specs.Verdicts.{verdict, codeOf, verdictOf, verdictIn, unlessOk}
 use Rattle.words.specs.declared.verdicts.Verdict.{Verdict}
@@ -101,12 +102,6 @@ pub verdict-done : {A B : Type 0} (m : Read A) (f : A → B) → verdictOf (andT
 unfolding verdictOf
 verdict-done (refused f) g = refl
 verdict-done (got a at) g = refl
-
-pub none-left : (m i : ℕ) → m ≤ i → m - i ≡ 0
-none-left m i h = omega arith
-
-pub one-left : (m i : ℕ) → i < m → m - i ≡ suc (m - (i + 1))
-one-left m i h = omega arith
 
 -- a record and those after it
 pub verdict-cons-stop : {A : Type 0} (m : Read A) (k : ℕ → Read (List A)) (r : Verdict) → r ≡ verdictOf m → (r .class ≡ 0 → ⊥)

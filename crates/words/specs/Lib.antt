@@ -1,2 +1,3 @@
 pub mod Verdicts
 pub mod Sums
+pub mod Points

@@ -3,9 +3,10 @@ use Prim.Native.Nat.{_-_, _≤_}
 use native.Mathlib.Omega.{arith}
 use lib.ListN.{length}
 use Rattle.model.specs.Format.{tableOf}
+use Rattle.model.proofs.RawExact.{few-points}
 use Rattle.arrays.specs.Flat.{Tells}
 use Rattle.covers.specs.Parts.{hasBit}
-use Rattle.covers.proofs.Accepted.{few-points, points-read, few-covers}
+use Rattle.covers.proofs.Accepted.{points-read, few-covers}
 use Rattle.covers.proofs.PointRows.{Filled, filled-none, filled-turn}
 use Rattle.covers.proofs.put_has.Statement.{statement}
 use Rattle.covers.proofs.put_has.Tie as tie

@@ -4,8 +4,9 @@ use Prim.Native.Nat.{ℕ, _+_, _-_, _*_}
 use native.Mathlib.Omega.{arith}
 use borrow.Author.Needs.{needs}
 use Rattle.model.specs.Format.{pointRecord}
+use Rattle.model.proofs.RawExact.{few-points}
 use Rattle.arrays.specs.Put.{put}
-use Rattle.covers.proofs.Accepted.{few-points, few-covers, few-bins, wide-at, searchable, parts-count, has-bits}
+use Rattle.covers.proofs.Accepted.{few-covers, few-bins, wide-at, searchable, parts-count, has-bits}
 use Rattle.covers.proofs.PartLaws.{low-bound, high-is}
 use Rattle.covers.proofs.put_has_at.Statement.{statement}
 use Rattle.covers.proofs.put_has_at.Tie as tie

@@ -5,7 +5,8 @@ use native.Mathlib.Omega.{arith}
 use lib.ListN.{drop}
 use borrow.Author.Needs.{needs}
 use Rattle.arrays.specs.Put.{put}
-use Rattle.covers.proofs.Accepted.{few-points, few-covers, few-bins, wide-at, searchable, parts-count, meet-bits}
+use Rattle.model.proofs.RawExact.{few-points}
+use Rattle.covers.proofs.Accepted.{few-covers, few-bins, wide-at, searchable, parts-count, meet-bits}
 use Rattle.covers.proofs.put_meets.Statement.{statement}
 use Rattle.covers.proofs.put_meets.Tie as tie
 

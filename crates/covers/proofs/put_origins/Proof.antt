@@ -5,11 +5,13 @@ use native.Mathlib.Omega.{arith}
 use lib.ListN.{length, set}
 use Rattle.model.specs.Format.{tableOf}
 use Rattle.model.specs.Register.{pointTotal}
+use Rattle.model.proofs.RawExact.{few-points}
 use Rattle.arrays.specs.Flat.{origin, Origins, coverCounts}
-use Rattle.covers.proofs.Accepted.{few-points, points-read, few-covers}
+use Rattle.covers.proofs.Accepted.{points-read, few-covers}
 use Rattle.arrays.proofs.PutLaws.{put-nil, put-cons}
-use Rattle.covers.proofs.Extra.{Written, written-start, written-turn, written-end}
-use Rattle.covers.proofs.PointRows.{Filled, filled-none, filled-turn, countsFrom, counts-start, counts-length, counts-turn, counts-end}
+use Rattle.arrays.proofs.Written.{Written, written-start, written-turn, written-end}
+use Rattle.arrays.proofs.FlatLaws.{counts-length}
+use Rattle.covers.proofs.PointRows.{Filled, filled-none, filled-turn, countsFrom, counts-start, counts-turn, counts-end}
 use Rattle.covers.proofs.put_origins.Statement.{statement}
 use Rattle.covers.proofs.put_origins.Tie as tie
 

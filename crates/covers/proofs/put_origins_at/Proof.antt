@@ -4,7 +4,8 @@ use Prim.Native.Nat.{ℕ, _*_}
 use native.Mathlib.Omega.{arith}
 use borrow.Author.Needs.{needs}
 use Rattle.arrays.specs.Put.{put}
-use Rattle.covers.proofs.Accepted.{few-points, few-covers, few-bins, wide-at, origins-count, origins-are}
+use Rattle.model.proofs.RawExact.{few-points}
+use Rattle.covers.proofs.Accepted.{few-covers, few-bins, wide-at, origins-count, origins-are}
 use Rattle.covers.proofs.put_origins_at.Statement.{statement}
 use Rattle.covers.proofs.put_origins_at.Tie as tie
 

@@ -51,8 +51,8 @@ put-hits-requires c κs =
     let same = sizes-same s (pre .0 .0) (a .c) (pre .0 .1) (a .cp) (a .bp) (a .kp) good (a .counts .now) (pre .1 .2) (c .before .before .before .byte .result) (c .before .before .sizes-of .result) (c .before .before .before .byte .ensures) (c .before .before .sizes-of .ensures) in
     (omega (arith, good .near .0), omega (arith, good .four, c .before .before .before .byte .ensures), c .before .total .ensures, omega (arith, pre .1 .0, c .before .total .ensures, total-few s (pre .0 .0) (a .c) (pre .0 .1) (a .cp) (a .bp) (a .kp) good sizes same))
 
-clear-requires : tie.Need-clear-requires
-clear-requires c κs =
+put-same-u16-requires : tie.Need-put-same-u16-requires
+put-same-u16-requires c κs =
     let a = c .before .before .before .before .before .before .before .before .before .before .before .before .before .before .args in
     let pre = c .before .before .before .before .before .before .before .before .before .before .before .before .before .before .pre in
     let s = a .t .now in
@@ -91,11 +91,11 @@ add-bins-requires c κs =
         omega (arith, good .four, c .before .before .before .before .before .before .before .before .before .before .before .before .before .byte .ensures),
         c .before .before .before .before .before .before .before .before .before .before .before .total .ensures,
         omega (arith, pre .1 .0, c .before .before .before .before .before .before .before .before .before .before .before .total .ensures, few, c .before .before .before .before .before .before .before .before .before .put-hits .kept .0),
-        omega (arith, pre .1 .1, c .before .before .before .before .before .before .before .before .before .before .before .total .ensures, few, c .before .before .before .before .before .clear .kept .0),
+        omega (arith, pre .1 .1, c .before .before .before .before .before .before .before .before .before .before .before .total .ensures, few, c .before .before .before .before .before .put-same-u16 .kept .0),
       ),
       (
         (record { whole = pre .0 .0; points = good .points; gates = pre .1 .3; from = pre .1 .5 }, subst (BinsSingle s (a .bp) (a .kp)) (sym (c .before .before .byte2 .ensures)) (good .single), subst (BinsLegal s (a .cp) (a .bp) (a .kp)) (sym (c .before .before .byte2 .ensures)) (good .legal), same),
-        (hits-say s (a .gate .now) (a .cp + 1) sizes (c .before .before .before .before .before .before .before .before .before .before .before .total .result) (a .hits .now) (c .before .before .before .before .before .before .before .before .before .put-hits .last .0) (c .before .before .before .before .before .before .before .before .before .put-hits .ensures), clear-below (c .before .before .before .before .before .before .before .before .before .before .before .total .result) (a .marks .now) (c .before .before .before .before .before .clear .last .0) (c .before .before .before .before .before .clear .ensures)),
+        (hits-say s (a .gate .now) (a .cp + 1) sizes (c .before .before .before .before .before .before .before .before .before .before .before .total .result) (a .hits .now) (c .before .before .before .before .before .before .before .before .before .put-hits .last .0) (c .before .before .before .before .before .before .before .before .before .put-hits .ensures), clear-below (c .before .before .before .before .before .before .before .before .before .before .before .total .result) (a .marks .now) (c .before .before .before .before .before .put-same-u16 .last .0) (c .before .before .before .before .before .put-same-u16 .ensures .1)),
       ),
     )
 
@@ -121,7 +121,7 @@ returns c =
       λ f tells. (
         c .before .before .before .before .before .before .before .before .before .before .before .before .put-hits .ensures
             ∙ ap (λ (x : List ℕ). put 0 x (a .hits .now)) (ap (hitsFrom s (a .gate .now) (a .cp + 1) sizes 0) (c .before .before .before .before .before .before .before .before .before .before .before .before .before .before .total .ensures) ∙ hits-exact s (pre .0 .0) (a .c) (pre .0 .1) (a .cp) (a .bp) (a .kp) good sizes same (a .gate .now) f tells),
-        added-put all (a .marks .now) (c .before .before .before .before .before .before .before .before .clear .last .0) (c .before .before .before .before .before .before .before .before .clear .ensures) (g (c .before .before .before .before .before .byte2 .result)) (c .before .before .add-bins .last .0) (c .before .before .add-bins .kept .0 ∙ c .before .before .before .before .before .before .before .before .clear .kept .0) (omega (arith, pre .1 .1, c .before .before .before .before .before .before .before .before .before .before .before .before .before .before .total .ensures)) (c .before .before .add-bins .ensures)
+        added-put all (a .marks .now) (c .before .before .before .before .before .before .before .before .put-same-u16 .last .0) (c .before .before .before .before .before .before .before .before .put-same-u16 .ensures .1) (g (c .before .before .before .before .before .byte2 .result)) (c .before .before .add-bins .last .0) (c .before .before .add-bins .kept .0 ∙ c .before .before .before .before .before .before .before .before .put-same-u16 .kept .0) (omega (arith, pre .1 .1, c .before .before .before .before .before .before .before .before .before .before .before .before .before .before .total .ensures)) (c .before .before .add-bins .ensures)
             ∙ ap (λ (x : List ℕ). put 0 x (a .marks .now))
             (ap₂ (λ (m n : ℕ). map (g m) (upFrom 0 n)) (c .before .before .before .before .before .byte2 .ensures) (c .before .before .before .before .before .before .before .before .before .before .before .before .before .before .total .ensures) ∙ marks-exact s (pre .0 .0) (a .c) (pre .0 .1) (a .cp) (a .bp) (a .kp) good sizes same (a .gate .now) f tells),
       ),
@@ -137,7 +137,7 @@ put-marks-spec =
     total-requires
     add-put-hits
     put-hits-requires
-    clear-requires
+    put-same-u16-requires
     add-byte
     byte-requires-2
     cast-n

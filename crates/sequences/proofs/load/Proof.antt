@@ -5,7 +5,8 @@ use Prim.Native.Nat.{ℕ, _-_}
 use native.Mathlib.Omega.{arith}
 use lib.ListN.{length, drop, length-set, replicate}
 use Rattle.arrays.specs.Put.{put}
-use Rattle.arrays.proofs.PutLaws.{put-zero, drop-replicate}
+use Rattle.arrays.proofs.PutLaws.{put-zero}
+use Rattle.model.proofs.Lists.{drop-replicate}
 use Rattle.sequences.proofs.Turns.{copy-turn, copy-end}
 use Rattle.sequences.proofs.load.Statement.{statement}
 use Rattle.sequences.proofs.load.Tie as tie

@@ -1,5 +1,5 @@
 -- `coverage::items::put_leasts_at` meets its contract. Assumes nothing.
-use mathlib.Core.Path.{_≡_, refl, sym, _∙_}
+use mathlib.Core.Path.{_≡_, refl}
 use mathlib.Core.List.{map}
 use Prim.Native.Nat.{_+_, _-_, _≤_}
 use native.Mathlib.Omega.{arith}
@@ -7,8 +7,8 @@ use native.Mathlib.Nat.{sub-zero}
 use lib.ListN.{length, length-set}
 use Rattle.model.specs.Lists.{upFrom}
 use Rattle.arrays.specs.Put.{put}
+use Rattle.arrays.proofs.Written.{fill-turn, fill-end}
 use Rattle.coverage.specs.Items.{leastAt, leastsAt}
-use Rattle.coverage.proofs.Extra.{write-turn, write-end}
 use Rattle.coverage.proofs.items.put_leasts_at.Statement.{statement}
 use Rattle.coverage.proofs.items.put_leasts_at.Tie as tie
 
@@ -50,7 +50,7 @@ loop-again c =
     let a = c .before .before .before .before .before .args in (
       omega arith,
       simp length-set (l .inv .1),
-      write-turn (leastAt (a .t .now) (a .p) (a .n) (a .c) (a .m)) (a .n + a .m) (l .i) (l .leasts) (c .least-at .result) (omega arith) (omega arith) (c .least-at .ensures) ∙ l .inv .2,
+      fill-turn (leastAt (a .t .now) (a .p) (a .n) (a .c) (a .m)) (l .i) (l .i) (a .n + a .m) (l .i) (c .least-at .result) (l .leasts) _ (l .inv .2) (c .least-at .ensures) (omega arith) (omega arith),
     )
 
 same-length : tie.Need-same-length Inv-loop μ-loop
@@ -60,7 +60,7 @@ returns : tie.Need-returns Inv-loop μ-loop
 returns c =
     let l = c .before .loop in
     let a = c .before .before .before .before .args in
-    sym (write-end (leastAt (a .t .now) (a .p) (a .n) (a .c) (a .m)) (a .n + a .m) (l .i) (l .leasts) (omega arith)) ∙ l .inv .2
+    fill-end (leastAt (a .t .now) (a .p) (a .n) (a .c) (a .m)) (l .i) (l .i) (a .n + a .m) (l .i) (l .leasts) _ (l .inv .2) (omega arith)
 
 pub put-leasts-at-spec : {M : Type 1} → statement M
 put-leasts-at-spec =

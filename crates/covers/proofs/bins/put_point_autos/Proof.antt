@@ -5,12 +5,12 @@ use native.Mathlib.Omega.{arith}
 use lib.ListN.{length, drop}
 use Rattle.model.specs.Table.{span}
 use Rattle.ranges.specs.Taken.{excludedAt}
-use Rattle.values.proofs.Laws.{not-true, not-false}
 use Rattle.covers.specs.Parts.{portionParts}
 use Rattle.covers.proofs.BitLaws.{bits-unwritten, bits-as}
 use Rattle.covers.proofs.FormLaws.{portion-length}
 use Rattle.covers.proofs.PartLaws.{auto-none, auto-all}
 use borrow.Author.Needs.{needs}
+use borrow.Author.Tests.{not-true, not-false}
 use Rattle.covers.proofs.bins.put_point_autos.Statement.{statement}
 use Rattle.covers.proofs.bins.put_point_autos.Tie as tie
 

@@ -3,11 +3,11 @@ use Prim.Native.Nat.{_+_, _-_}
 use native.Mathlib.Omega.{arith}
 use lib.ListN.{length}
 use borrow.Author.Needs.{needs}
+use borrow.Author.Tests.{not-true, not-false}
 use mathlib.Core.List.{[], _∷_}
 use Rattle.model.specs.Table.{span}
 use Rattle.model.specs.Values.{lowest}
 use Rattle.model.specs.Format.{pointRecord}
-use Rattle.values.proofs.Laws.{not-true, not-false}
 use Rattle.covers.proofs.FormLaws.{portion-length}
 use Rattle.covers.proofs.PartLaws.{auto-none, auto-all}
 use Rattle.covers.proofs.origins.auto_total.Statement.{statement}

@@ -4,8 +4,8 @@ use native.Mathlib.Omega.{arith}
 use lib.ListN.{replicate, length-replicate}
 use Rattle.model.specs.Format.{u16}
 use Rattle.model.specs.Raw.{binsAt}
+use Rattle.arrays.proofs.Written.{Written, written-start, written-room, written-turn, written-end}
 use Rattle.covers.specs.Parts.{originsIn}
-use Rattle.covers.proofs.Extra.{Written, written-start, written-room, written-turn, written-end}
 use Rattle.covers.proofs.OriginLaws.{origins-start, origins-turn, origins-end}
 use Rattle.covers.proofs.origins.put_listed.Statement.{statement}
 use Rattle.covers.proofs.origins.put_listed.Tie as tie
@@ -27,11 +27,11 @@ loop-holds c =
 own-count-requires : tie.Need-own-count-requires Inv-loop μ-loop
 own-count-requires c κs = omega arith
 
-cast-put-same : tie.Need-cast-put-same Inv-loop μ-loop
-cast-put-same c = omega arith
+cast-put-same-u16 : tie.Need-cast-put-same-u16 Inv-loop μ-loop
+cast-put-same-u16 c = omega arith
 
-put-same-requires : tie.Need-put-same-requires Inv-loop μ-loop
-put-same-requires c κs =
+put-same-u16-requires : tie.Need-put-same-u16-requires Inv-loop μ-loop
+put-same-u16-requires c κs =
     let a = c .before .before .before .before .before .before .args in
     let q = c .before .before .before .before .before .before .pre in
     let l = c .before .before .before .loop in
@@ -72,7 +72,7 @@ loop-again c =
     let s = a .t .now in
     let m = c .before .before .before .before .before .own-count in
     let k = c .read2 in
-    let w = c .before .before .before .put-same in (
+    let w = c .before .before .before .put-same-u16 in (
       omega arith,
       omega arith,
       omega arith,
@@ -99,8 +99,8 @@ put-listed-spec =
     μ-loop
     loop-holds
     own-count-requires
-    cast-put-same
-    put-same-requires
+    cast-put-same-u16
+    put-same-u16-requires
     add-read2
     read2-requires
     add-b

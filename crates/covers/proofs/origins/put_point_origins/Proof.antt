@@ -5,8 +5,8 @@ use lib.ListN.{length, replicate, length-append, length-replicate}
 use borrow.Author.Needs.{needs}
 use Rattle.model.specs.Format.{pointRecord}
 use Rattle.model.specs.Raw.{binsAt}
+use Rattle.arrays.proofs.Written.{both-written}
 use Rattle.covers.specs.Parts.{originsIn, pointOrigins}
-use Rattle.covers.proofs.Extra.{written-two}
 use Rattle.covers.proofs.PartLaws.{low-bound}
 use Rattle.covers.proofs.OriginLaws.{origins-point}
 use Rattle.covers.proofs.origins.put_point_origins.Statement.{statement}
@@ -33,8 +33,8 @@ put-listed-requires c κs =
     let z = origins-point s (a .point) (a .bins) (a .ranges) (a .n) (a .b) (a .k) (a .p) (low .result) (m .result) (has .result) (low .ensures) (has .ensures) (m .ensures .0) in
     (q .0 .1, q .0 .2, q .0 .3, omega (arith, low .ensures, low-bound (pointRecord s (a .point))), omega (arith, q .1, ap length z ∙ length-append listed (replicate (m .result) 65535), length-replicate {A = ℕ} (m .result) 65535))
 
-put-same-requires : tie.Need-put-same-requires
-put-same-requires c κs =
+put-same-u16-requires : tie.Need-put-same-u16-requires
+put-same-u16-requires c κs =
     let a = c .before .before .before .before .before .before .before .before .before .before .args in
     let q = c .before .before .before .before .before .before .before .before .before .before .pre in
     let s = a .t .now in
@@ -60,9 +60,9 @@ returns c =
     let listed = originsIn (low .result) (a .p) 0 (binsAt s (a .bins) (a .ranges) (a .n)) in
     let z = origins-point s (a .point) (a .bins) (a .ranges) (a .n) (a .b) (a .k) (a .p) (low .result) (m .result) (has .result) (low .ensures) (has .ensures) (m .ensures .0) in
     let w = c .before .before .before .before .before .before .put-listed in
-    let v = c .before .before .put-same in
-    written-two (a .at) (pointOrigins s (a .point) (a .bins) (a .ranges) (a .n) (a .b) (a .k) (a .p)) listed (replicate (m .result) 65535) (a .out .now) z (q .1)
-    (w .result) (w .last .0) (w .ensures .0) (w .ensures .1) (v .result) (v .last .0) (v .ensures .0 ∙ ap (w .result +_) (sym (length-replicate {A = ℕ} (m .result) 65535))) (v .ensures .1)
+    let v = c .before .before .put-same-u16 in
+    both-written (a .at) (w .result) (v .result) listed (replicate (m .result) 65535) (pointOrigins s (a .point) (a .bins) (a .ranges) (a .n) (a .b) (a .k) (a .p)) (a .out .now) (w .last .0) (v .last .0) z (q .1)
+    (w .ensures .0) (w .ensures .1) (v .ensures .0 ∙ ap (w .result +_) (sym (length-replicate {A = ℕ} (m .result) 65535))) (v .ensures .1)
 
 pub put-point-origins-spec : {M : Type 1} → statement M
 put-point-origins-spec =
@@ -72,6 +72,6 @@ put-point-origins-spec =
     has-auto-requires
     auto-total-requires
     put-listed-requires
-    put-same-requires
+    put-same-u16-requires
     same-length
     returns)

@@ -6,10 +6,11 @@ use lib.ListN.{length}
 use Rattle.model.specs.Counters.{Counter}
 use Rattle.model.specs.Sampling.{Stretches}
 use Rattle.model.specs.Format.{tableOf}
+use Rattle.model.proofs.RawExact.{few-crosses}
 use Rattle.arrays.specs.Put.{put}
 use Rattle.arrays.specs.Flat.{Tells, crossPlace, allCrossCounters}
 use Rattle.crosses.specs.Flags.{gateOf, flagsOf, placeOf}
-use Rattle.crosses.proofs.Places.{place-start, place-turn, count-crosses, few-crosses}
+use Rattle.crosses.proofs.Places.{place-start, place-turn, count-crosses}
 use Rattle.crosses.proofs.Walks.{countersFrom, from-start, from-length, from-end, flags-turn, flags-end}
 use Rattle.crosses.proofs.all.put_each.Statement.{statement}
 use Rattle.crosses.proofs.all.put_each.Tie as tie

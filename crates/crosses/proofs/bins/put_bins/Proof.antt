@@ -5,9 +5,9 @@ use native.Mathlib.Omega.{arith}
 use lib.ListN.{length, length-append}
 use Rattle.arrays.specs.Put.{put}
 use Rattle.arrays.proofs.PutLaws.{put-nil}
+use Rattle.arrays.proofs.Written.{put-turn}
 use Rattle.model.specs.Format.{kindFrom}
 use Rattle.crosses.specs.Flags.{labelOf, headsAt, binFlags}
-use Rattle.crosses.proofs.Extra.{written-turn}
 use Rattle.crosses.proofs.Laws.{flags-start, flags-turn, flags-end}
 use Rattle.crosses.proofs.bins.put_bins.Statement.{statement}
 use Rattle.crosses.proofs.bins.put_bins.Tie as tie
@@ -81,7 +81,7 @@ loop-again c =
     let h = c .before .before .before .flag-of2 in
     let q = c .before .before .put-label in
     let z = flags-turn (a .sample .now) (a .total) (a .live) (a .t .now) (a .b) (a .n) (l .x) (l .y) (l .i) (k .result) (g .result) (f .result) (h .result) (p .result) (omega arith) (k .ensures) (g .ensures) (p .ensures) (f .ensures) (h .ensures) in
-    let u = written-turn (l .at) (q .result) _ _ _ (l .flags) (q .last .0) z (omega (arith, l .inv .1, l .inv .2, c .before .before .before .before .before .before .before .before .before .before .before .before .before .before .pre .2)) (q .ensures .0) (q .ensures .1) in
+    let u = put-turn (l .at) (q .result) _ _ _ (l .flags) (q .last .0) z (omega (arith, l .inv .1, l .inv .2, c .before .before .before .before .before .before .before .before .before .before .before .before .before .before .pre .2)) (q .ensures .0) (q .ensures .1) in
     (omega arith, q .kept .0 ∙ l .inv .1, u .0 ∙ l .inv .2, u .1 ∙ l .inv .3)
 
 same-length : tie.Need-same-length Inv-loop μ-loop

@@ -1,7 +1,7 @@
 use mathlib.Core.Path.{sym, ap, _∙_}
 use Prim.Native.Nat.{_+_}
 use native.Mathlib.Omega.{arith}
-use Rattle.values.proofs.PointLaws.{both-written}
+use Rattle.arrays.proofs.Written.{both-written}
 use Rattle.crosses.proofs.Laws.{cross-parts, cross-parts-length, length-products}
 use borrow.Author.Needs.{needs}
 use Rattle.crosses.proofs.bins.put_cross.Statement.{statement}

@@ -1,7 +1,7 @@
 use mathlib.Core.Path.{ap}
 use lib.ListN.{length}
 use native.Mathlib.Omega.{arith}
-use Rattle.values.proofs.Laws.{unwritten}
+use Rattle.arrays.proofs.Written.{unwritten}
 use Rattle.crosses.proofs.Laws.{label-cover, label-illegal, label-none, one-written}
 use borrow.Author.Needs.{needs}
 use Rattle.crosses.proofs.bins.put_label.Statement.{statement}

@@ -5,8 +5,8 @@ use native.Mathlib.Omega.{arith}
 use lib.ListN.{length, take, drop}
 use Rattle.arrays.specs.Put.{put}
 use Rattle.arrays.proofs.PutLaws.{put-nil}
+use Rattle.arrays.proofs.Written.{put-turn}
 use Rattle.crosses.specs.Flags.{productFlags}
-use Rattle.crosses.proofs.Extra.{written-turn}
 use Rattle.crosses.proofs.Laws.{products-turn, products-end, length-products}
 use Rattle.crosses.proofs.bins.put_products.Statement.{statement}
 use Rattle.crosses.proofs.bins.put_products.Tie as tie
@@ -56,7 +56,7 @@ loop-again c =
     let q = c .before .before .put-one in
     let z = products-turn (a .live) (a .n) (l .i) (a .hits .now) (a .marks .now) (omega arith) (p .0) (p .1) in
     let e : a .cur + (l .i + 1) ≡ a .cur + l .i + 1 = omega arith in
-    let u = written-turn (a .cur + l .i) (a .cur + (l .i + 1)) _ _ _ (l .flags) (q .last .0) z (omega (arith, l .inv .1, l .inv .2, p .2)) e (q .ensures .1) in
+    let u = put-turn (a .cur + l .i) (a .cur + (l .i + 1)) _ _ _ (l .flags) (q .last .0) z (omega (arith, l .inv .1, l .inv .2, p .2)) e (q .ensures .1) in
     (omega arith, q .kept .0 ∙ l .inv .1, u .0 ∙ l .inv .2, u .1 ∙ l .inv .3)
 
 add-result : tie.Need-add-result Inv-loop μ-loop

@@ -32,11 +32,11 @@ add-byte-2 c = omega arith
 byte-requires-2 : tie.Need-byte-requires-2 Inv-loop μ-loop
 byte-requires-2 c κs = tt
 
-cast-count-at : tie.Need-cast-count-at Inv-loop μ-loop
-cast-count-at c = omega arith
+cast-element : tie.Need-cast-element Inv-loop μ-loop
+cast-element c = omega arith
 
-count-at-requires : tie.Need-count-at-requires Inv-loop μ-loop
-count-at-requires c κs = tt
+element-requires : tie.Need-element-requires Inv-loop μ-loop
+element-requires c κs = tt
 
 cast-product : tie.Need-cast-product Inv-loop μ-loop
 cast-product c = omega arith
@@ -44,7 +44,7 @@ cast-product c = omega arith
 mul-product : tie.Need-mul-product Inv-loop μ-loop
 mul-product c =
     let l = c .before .before .before .loop in
-    let z = power-turn (l .i) (c .count-at .result) (l .product) (l .inv .2) (omega arith) in
+    let z = power-turn (l .i) (c .element .result) (l .product) (l .inv .2) (omega arith) in
     omega (arith, z, power-small (l .i + 1) (omega arith))
 
 add-i : tie.Need-add-i Inv-loop μ-loop
@@ -58,8 +58,8 @@ loop-again c =
     let a = c .before .before .before .before .before .before .before .args in
     let l = c .before .before .before .loop in
     let n = c .before .before .before .before .byte .result in
-    let z = power-turn (l .i) (c .count-at .result) (l .product) (l .inv .2) (omega arith) in
-    (omega arith, omega arith, z, l .inv .3 ∙ product-turn (a .t .now) (a .counts .now) (a .cp) n (l .i) (c .count-at .result) (c .before .byte2 .result) (l .product) (omega arith) (c .before .byte2 .ensures) (c .count-at .ensures))
+    let z = power-turn (l .i) (c .element .result) (l .product) (l .inv .2) (omega arith) in
+    (omega arith, omega arith, z, l .inv .3 ∙ product-turn (a .t .now) (a .counts .now) (a .cp) n (l .i) (c .element .result) (c .before .byte2 .result) (l .product) (omega arith) (c .before .byte2 .ensures) (c .element .ensures))
 
 returns : tie.Need-returns Inv-loop μ-loop
 returns c =
@@ -79,8 +79,8 @@ product-count-spec =
     add-byte
     add-byte-2
     byte-requires-2
-    cast-count-at
-    count-at-requires
+    cast-element
+    element-requires
     cast-product
     mul-product
     add-i

@@ -5,11 +5,12 @@ use native.Mathlib.Omega.{arith}
 use lib.ListN.{length}
 use Rattle.model.specs.Counters.{Counter, crossCounters}
 use Rattle.model.specs.Format.{tableOf}
+use Rattle.model.proofs.RawExact.{few-crosses}
 use Rattle.arrays.specs.Put.{put}
 use Rattle.arrays.specs.Flat.{crossPlace, allCrossCounters}
 use Rattle.crosses.specs.Flags.{placeOf}
 use Rattle.crosses.specs.Labels.{Labels}
-use Rattle.crosses.proofs.Places.{place-first, place-on, count-crosses, few-crosses, few-parts}
+use Rattle.crosses.proofs.Places.{place-first, place-on, count-crosses, few-parts}
 use Rattle.crosses.proofs.FlagsExact.{labels-exact, length-labels}
 use Rattle.crosses.proofs.Walks.{countersFrom, from-start, from-length, from-end, map-turn, map-end}
 use Rattle.crosses.proofs.labels.put_all_labels.Statement.{statement}

@@ -3,8 +3,9 @@ use Prim.Native.Nat.{ℕ, _+_}
 use native.Mathlib.Omega.{arith}
 use Rattle.model.specs.Format.{tableOf}
 use Rattle.model.specs.Figures.{itemOf}
+use Rattle.model.proofs.RawExact.{few-points}
 use Rattle.arrays.specs.Flat.{itemsOf}
-use Rattle.crosses.proofs.Places.{count-points, few-points}
+use Rattle.crosses.proofs.Places.{count-points}
 use borrow.Author.Needs.{needs}
 use Rattle.crosses.proofs.labels.put_cross_items.Statement.{statement}
 use Rattle.crosses.proofs.labels.put_cross_items.Tie as tie

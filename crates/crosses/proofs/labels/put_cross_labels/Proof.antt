@@ -2,7 +2,7 @@ use mathlib.Core.Path.{sym, ap, _∙_}
 use Prim.Native.Nat.{_+_}
 use native.Mathlib.Omega.{arith}
 use lib.ListN.{length, replicate, length-append, length-replicate}
-use Rattle.values.proofs.PointLaws.{both-written}
+use Rattle.arrays.proofs.Written.{both-written}
 use Rattle.crosses.specs.Flags.{headsAt}
 use Rattle.crosses.specs.Labels.{binLabels}
 use Rattle.crosses.proofs.Laws.{labels-parts}

@@ -5,10 +5,10 @@ use native.Mathlib.Omega.{arith}
 use lib.ListN.{length, length-append}
 use Rattle.arrays.specs.Put.{put}
 use Rattle.arrays.proofs.PutLaws.{put-nil}
+use Rattle.arrays.proofs.Written.{put-turn}
 use Rattle.model.specs.Format.{kindFrom}
 use Rattle.crosses.specs.Flags.{labelOf, headsAt}
 use Rattle.crosses.specs.Labels.{binLabels}
-use Rattle.crosses.proofs.Extra.{written-turn}
 use Rattle.crosses.proofs.Laws.{labels-start, labels-turn, labels-end}
 use Rattle.crosses.proofs.labels.put_labels.Statement.{statement}
 use Rattle.crosses.proofs.labels.put_labels.Tie as tie
@@ -59,7 +59,7 @@ loop-again c =
     let k = c .before .before .before .before .byte in
     let q = c .before .before .put-label in
     let z = labels-turn (a .cover) (a .illegal) (a .t .now) (a .b) (a .n) (l .i) (k .result) (omega arith) (k .ensures) in
-    let u = written-turn (l .at) (q .result) _ _ _ (l .out) (q .last .0) z (omega (arith, l .inv .1, l .inv .2, c .before .before .before .before .before .before .before .before .before .pre .2)) (q .ensures .0) (q .ensures .1) in
+    let u = put-turn (l .at) (q .result) _ _ _ (l .out) (q .last .0) z (omega (arith, l .inv .1, l .inv .2, c .before .before .before .before .before .before .before .before .before .pre .2)) (q .ensures .0) (q .ensures .1) in
     (omega arith, q .kept .0 ∙ l .inv .1, u .0 ∙ l .inv .2, u .1 ∙ l .inv .3)
 
 same-length : tie.Need-same-length Inv-loop μ-loop

@@ -1,6 +1,6 @@
 use mathlib.Core.Path.{sym, ap, _∙_}
 use Rattle.model.specs.Lists.{asBit}
-use Rattle.values.proofs.Laws.{excludes-kind}
+use Rattle.model.proofs.Fields.{excludes-kind}
 use Rattle.crosses.proofs.own.excluding.Statement.{statement}
 use Rattle.crosses.proofs.own.excluding.Tie as tie
 

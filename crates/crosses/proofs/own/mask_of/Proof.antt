@@ -3,8 +3,8 @@ use Prim.Native.Nat.{_+_, _-_, _*_, _≤_}
 use native.Mathlib.Omega.{arith}
 use Rattle.model.specs.Table.{excludes}
 use Rattle.model.specs.Format.{kindFrom}
+use Rattle.model.proofs.RunBits.{asBit-le}
 use Rattle.crosses.specs.Flags.{headsAt, maskOf}
-use Rattle.crosses.proofs.Extra.{asBit-le}
 use Rattle.crosses.proofs.Laws.{mask-small, mask-none, mask-back, mask-done}
 use Rattle.crosses.proofs.own.mask_of.Statement.{statement}
 use Rattle.crosses.proofs.own.mask_of.Tie as tie

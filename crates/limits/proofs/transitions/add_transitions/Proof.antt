@@ -5,9 +5,10 @@ use mathlib.Core.Bool.{true}
 use borrow.Author.Tests.{ltb-true}
 use Rattle.model.specs.Lists.{all}
 use Rattle.model.specs.Raw.{rows}
+use Rattle.model.proofs.MeasureBounds.{transition-few}
 use Rattle.limits.specs.Bins.{added, Entries, here, placePoint, placeSingles, placeBars, pointBelow}
 use Rattle.limits.proofs.RowLaws.{all-start, rows-first, rows-others}
-use Rattle.limits.proofs.KindLaws.{transition-few, cover-few}
+use Rattle.limits.proofs.KindLaws.{cover-few}
 use Rattle.limits.proofs.EntryLaws.{entries-more, entries-up, rows-start, rows-on, rows-done}
 use borrow.Author.Needs.{needs}
 use Rattle.limits.proofs.transitions.add_transitions.Statement.{statement}

@@ -4,10 +4,10 @@ use Prim.Native.Nat.{ℕ, _-_, _≤_}
 use lib.ListN.{length, take, length-set}
 use Rattle.model.specs.Lists.{upFrom, asBit}
 use Rattle.arrays.specs.Put.{put}
+use Rattle.arrays.proofs.Written.{fill-turn, fill-end}
 use Rattle.selects.specs.Products.{many}
 use Rattle.selects.specs.declared.products.Walk.{Walk}
 use Rattle.marks.specs.Parts.{Standing, gatesOpen, hitBit, hitsFrom}
-use Rattle.marks.proofs.Extra.{fill-turn, fill-end}
 use Rattle.marks.proofs.Walks.{stand-first, stand-next, stand-digits}
 use native.Mathlib.Omega.{arith}
 use borrow.Author.Needs.{needs}

@@ -5,8 +5,8 @@ use lib.Dec.{eqb}
 use lib.ListN.{length, length-set}
 use Rattle.model.specs.Lists.{upFrom, asBit}
 use Rattle.arrays.specs.Put.{put}
+use Rattle.arrays.proofs.Written.{fill-turn, fill-end}
 use Rattle.marks.specs.Tokens.{namedBit, namedFrom}
-use Rattle.marks.proofs.Extra.{fill-turn, fill-end}
 use native.Mathlib.Omega.{arith}
 use borrow.Author.Needs.{needs}
 use Rattle.marks.proofs.leaves.put_named.Statement.{statement}

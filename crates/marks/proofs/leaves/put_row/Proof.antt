@@ -7,8 +7,9 @@ use Rattle.model.specs.Values.{lowest, fieldValue}
 use Rattle.model.specs.Counters.{pointAt}
 use Rattle.model.specs.Format.{byte, u64, tableOf}
 use Rattle.model.specs.Register.{pointTotal}
+use Rattle.covers.proofs.Accepted.{few-covers}
 use Rattle.marks.specs.Tokens.{tokenPoint}
-use Rattle.marks.proofs.Rows.{covers-few, row-named, row-meets, row-same}
+use Rattle.marks.proofs.Rows.{row-named, row-meets, row-same}
 use borrow.Author.Needs.{needs}
 use Rattle.marks.proofs.leaves.put_row.Statement.{statement}
 use Rattle.marks.proofs.leaves.put_row.Tie as tie
@@ -60,7 +61,7 @@ returns c =
     let legal = c .before .before .before .before .before .before .before .before .before .before .before .before .before .pre .1 .1 in
     let inside = ready .points (byte s (a .k + 1)) (legal .position) in
     let op : byte s (a .k) ≡ 1 = sym (c .before .before .before .before .before .before .before .before .byte .ensures) ∙ c .before .before .before .before .before .if1 .taken in
-    row-named (tableOf s) s (a .gate .now) (a .c) (a .k) (a .row) (a .leaves .now) (c .before .before .put-named .last .0) (c .before .before .before .before .before .before .before .before .before .before .before .before .before .pre .0 .0) (covers-few s (ready .whole) _ inside)
+    row-named (tableOf s) s (a .gate .now) (a .c) (a .k) (a .row) (a .leaves .now) (c .before .before .put-named .last .0) (c .before .before .before .before .before .before .before .before .before .before .before .before .before .pre .0 .0) (few-covers s (ready .whole) _ inside)
     (a .origins .now) (c .before .before .before .before .read2 .result) (c .before .before .before .before .before .before .byte3 .result) (c .before .before .before .before .before .before .byte3 .ensures ∙ ap (λ (x : ℕ). getD s (a .c + 1 + x) 0) (c .before .before .before .before .before .before .before .byte2 .ensures)) (c .before .before .before .before .read2 .ensures) op (legal .bin op) inside (ready .from) (c .before .before .put-named .ensures)
 
 add-field : tie.Need-add-field
@@ -115,7 +116,7 @@ returns-3 c =
     let ready = c .before .before .before .before .before .before .before .before .before .before .before .before .before .before .pre .1 .0 in
     let legal = c .before .before .before .before .before .before .before .before .before .before .before .before .before .before .pre .1 .1 in
     let inside = ready .points (byte s (a .k + 1)) (legal .position) in
-    row-same (tableOf s) s (a .gate .now) (a .c) (a .k) (a .row) (a .leaves .now) (c .before .before .put-same .last .0) (c .before .before .before .before .before .before .before .before .before .before .before .before .before .before .pre .0 .0) (covers-few s (ready .whole) _ inside)
+    row-same (tableOf s) s (a .gate .now) (a .c) (a .k) (a .row) (a .leaves .now) (c .before .before .put-same .last .0) (c .before .before .before .before .before .before .before .before .before .before .before .before .before .before .pre .0 .0) (few-covers s (ready .whole) _ inside)
     (c .before .before .before .before .as-bit .result) (c .before .before .before .before .as-bit .ensures ∙ ap (λ (x : ℕ). asBit (eqb x 0)) (c .before .before .before .before .before .before .before .before .before .byte .ensures)) (λ e. c .before .before .before .before .before .before .if1 .left (c .before .before .before .before .before .before .before .before .before .byte .ensures ∙ e)) (λ e. c .before .before .before .before .before .if2 .left (c .before .before .before .before .before .before .before .before .before .byte .ensures ∙ e)) (c .before .before .put-same .ensures .1)
 
 pub put-row-spec : {M : Type 1} → statement M

@@ -2,8 +2,9 @@ use mathlib.Core.Path.{_≡_, refl, _∙_}
 use Prim.Native.Nat.{_+_, _*_, _-_, _≤_}
 use lib.ListN.{length}
 use Rattle.model.specs.Format.{byte, tableOf}
+use Rattle.covers.proofs.Accepted.{few-covers}
 use Rattle.marks.specs.Tokens.{RowsTold, TokensLegal}
-use Rattle.marks.proofs.Rows.{covers-few, no-rows, rows-more}
+use Rattle.marks.proofs.Rows.{no-rows, rows-more}
 use native.Mathlib.Omega.{arith}
 use Rattle.marks.proofs.leaves.put_rows.Statement.{statement}
 use Rattle.marks.proofs.leaves.put_rows.Tie as tie
@@ -50,7 +51,7 @@ loop-again c =
     let pre = c .before .before .before .before .before .before .before .before .before .before .pre in (
       omega arith,
       c .before .before .put-row .kept .0 ∙ l .inv .1,
-      rows-more (tableOf s) s (a .gate .now) (a .c) (a .k) (l .j) (λ j h. covers-few s (pre .1 .0 .whole) _ (pre .1 .0 .points (byte s (a .k + 20 * j + 1)) (pre .1 .1 j (omega arith) .position)))
+      rows-more (tableOf s) s (a .gate .now) (a .c) (a .k) (l .j) (λ j h. few-covers s (pre .1 .0 .whole) _ (pre .1 .0 .points (byte s (a .k + 20 * j + 1)) (pre .1 .1 j (omega arith) .position)))
           (l .leaves) (c .before .before .put-row .last .0) (l .inv .2) (c .before .before .put-row .ensures .0) (c .before .before .put-row .ensures .1),
     )
 

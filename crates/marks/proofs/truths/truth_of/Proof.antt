@@ -5,8 +5,8 @@ use lib.ListN.{length, take, getD, length-set}
 use Rattle.model.specs.Lists.{upFrom}
 use Rattle.model.specs.Format.{byte}
 use Rattle.arrays.specs.Put.{put}
+use Rattle.arrays.proofs.Written.{fill-turn, fill-end}
 use Rattle.marks.specs.Tokens.{truthBit, truthOf}
-use Rattle.marks.proofs.Extra.{fill-turn, fill-end}
 use native.Mathlib.Omega.{arith}
 use borrow.Author.Needs.{needs}
 use Rattle.marks.proofs.truths.truth_of.Statement.{statement}

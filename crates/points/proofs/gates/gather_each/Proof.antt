@@ -5,9 +5,9 @@ use lib.ListN.{length, getD}
 use Rattle.model.specs.Counters.{pointCounters}
 use Rattle.model.specs.Format.{tableOf}
 use Rattle.model.specs.Register.{pointTotal}
+use Rattle.model.proofs.RawExact.{few-points}
 use Rattle.arrays.specs.Put.{put}
 use Rattle.points.specs.Gates.{picked}
-use Rattle.points.proofs.Extra.{few-points}
 use Rattle.points.proofs.AllLaws.{few-here}
 use Rattle.points.proofs.KindExact.{start-low}
 use Rattle.points.proofs.ItemLaws.{start-read, end-read}

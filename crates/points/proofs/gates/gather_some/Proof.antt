@@ -4,8 +4,8 @@ use Prim.Native.Nat.{ℕ, _+_, _-_, _≤_}
 use native.Mathlib.Omega.{arith}
 use lib.ListN.{length, getD}
 use Rattle.arrays.specs.Put.{put}
+use Rattle.arrays.proofs.Written.{put-turn, put-end}
 use Rattle.points.specs.Gates.{picked}
-use Rattle.points.proofs.Extra.{put-turn, put-end}
 use Rattle.points.proofs.GateLaws.{pick-most, picked-turn, picked-end, picked-start, picked-few}
 use Rattle.points.proofs.gates.gather_some.Statement.{statement}
 use Rattle.points.proofs.gates.gather_some.Tie as tie

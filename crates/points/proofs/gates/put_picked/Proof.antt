@@ -5,7 +5,7 @@ use native.Mathlib.Omega.{arith}
 use borrow.Author.Needs.{needs}
 use lib.ListN.{set}
 use Rattle.arrays.proofs.PutLaws.{put-nil, put-cons}
-use Rattle.values.proofs.Laws.{as-written, unwritten}
+use Rattle.arrays.proofs.Written.{as-written, unwritten}
 use Rattle.points.proofs.GateLaws.{pick-none, pick-one}
 use Rattle.points.proofs.gates.put_picked.Statement.{statement}
 use Rattle.points.proofs.gates.put_picked.Tie as tie

@@ -6,9 +6,10 @@ use lib.ListN.{length, getD, length-replicate}
 use Rattle.model.specs.Counters.{pointCounters}
 use Rattle.model.specs.Format.{tableOf}
 use Rattle.model.specs.Register.{pointTotal}
+use Rattle.model.proofs.RawExact.{few-points}
 use Rattle.arrays.specs.Put.{put}
 use Rattle.arrays.specs.Flat.{itemsOf, allPointCounters, pointStart}
-use Rattle.points.proofs.Extra.{put-turn, few-points}
+use Rattle.arrays.proofs.Written.{put-turn}
 use Rattle.points.proofs.AllLaws.{few-here}
 use Rattle.points.proofs.KindExact.{start-zero, start-next, start-last, start-low}
 use Rattle.points.proofs.ItemLaws.{end-read, itemsFrom, items-all, items-next, items-none, items-room}

@@ -2,7 +2,7 @@ use mathlib.Core.Path.{refl, ap}
 use native.Mathlib.Omega.{arith}
 use borrow.Author.Needs.{needs}
 use lib.ListN.{length}
-use Rattle.values.proofs.Laws.{as-written, unwritten}
+use Rattle.arrays.proofs.Written.{as-written, unwritten}
 use Rattle.points.proofs.KindLaws.{other-bin, ignore-bin, cover-bin, plain-bin}
 use Rattle.points.proofs.kinds.put_bin_kinds.Statement.{statement}
 use Rattle.points.proofs.kinds.put_bin_kinds.Tie as tie

@@ -7,9 +7,10 @@ use Rattle.model.specs.Counters.{pointCounters}
 use Rattle.model.specs.Format.{tableOf}
 use Rattle.arrays.specs.Put.{put}
 use Rattle.arrays.specs.Flat.{kindsOf, allPointCounters, pointStart, pointStarts}
-use Rattle.points.proofs.Extra.{put-turn}
+use Rattle.arrays.proofs.Written.{put-turn}
+use Rattle.arrays.proofs.FlatLaws.{kinds-length}
 use Rattle.points.proofs.AllLaws.{point-number}
-use Rattle.points.proofs.KindExact.{kindsFrom, startsFrom, kinds-length, start-zero, start-next, start-last, start-low, kinds-all, kinds-next, kinds-none, kinds-room, starts-all, starts-next, starts-last}
+use Rattle.points.proofs.KindExact.{kindsFrom, startsFrom, start-zero, start-next, start-last, start-low, kinds-all, kinds-next, kinds-none, kinds-room, starts-all, starts-next, starts-last}
 use Rattle.points.proofs.kinds.put_each.Statement.{statement}
 use Rattle.points.proofs.kinds.put_each.Tie as tie
 

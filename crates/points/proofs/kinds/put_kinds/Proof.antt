@@ -2,9 +2,10 @@ use native.Mathlib.Omega.{arith}
 use borrow.Author.Needs.{needs}
 use Rattle.model.specs.Counters.{pointCounters}
 use Rattle.model.specs.Format.{tableOf}
+use Rattle.arrays.proofs.FlatLaws.{kinds-length}
 use Rattle.points.proofs.ValueLaws.{places-ready, low-ready}
 use Rattle.points.proofs.AllLaws.{few-here}
-use Rattle.points.proofs.KindExact.{kind-parts, kind-room, kinds-length, all-written}
+use Rattle.points.proofs.KindExact.{kind-parts, kind-room, all-written}
 use Rattle.points.proofs.kinds.put_kinds.Statement.{statement}
 use Rattle.points.proofs.kinds.put_kinds.Tie as tie
 

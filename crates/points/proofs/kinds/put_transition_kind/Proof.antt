@@ -2,7 +2,7 @@ use mathlib.Core.Path.{refl, ap}
 use native.Mathlib.Omega.{arith}
 use borrow.Author.Needs.{needs}
 use lib.ListN.{length}
-use Rattle.values.proofs.Laws.{as-written, unwritten}
+use Rattle.arrays.proofs.Written.{as-written, unwritten}
 use Rattle.points.proofs.KindLaws.{other-transition, cover-transition, illegal-transition, ignore-transition}
 use Rattle.points.proofs.kinds.put_transition_kind.Statement.{statement}
 use Rattle.points.proofs.kinds.put_transition_kind.Tie as tie

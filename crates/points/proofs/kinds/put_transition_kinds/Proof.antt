@@ -4,8 +4,8 @@ use native.Mathlib.Nat.{sub-zero}
 use native.Mathlib.Omega.{arith}
 use lib.ListN.{length, length-append}
 use Rattle.arrays.specs.Put.{put}
+use Rattle.arrays.proofs.Written.{put-turn, put-end}
 use Rattle.points.specs.Kinds.{transitionKindsFrom}
-use Rattle.points.proofs.Extra.{put-turn, put-end}
 use Rattle.points.proofs.KindLaws.{rows-turn, rows-end}
 use Rattle.points.proofs.kinds.put_transition_kinds.Statement.{statement}
 use Rattle.points.proofs.kinds.put_transition_kinds.Tie as tie

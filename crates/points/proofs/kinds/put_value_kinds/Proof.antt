@@ -7,10 +7,10 @@ use lib.ListN.{length, length-append}
 use Rattle.model.specs.Table.{ValueBin}
 use Rattle.model.specs.Raw.{binsAt}
 use Rattle.arrays.specs.Put.{put}
+use Rattle.arrays.proofs.Written.{put-turn, put-end}
 use Rattle.values.specs.Flags.{fits}
 use Rattle.values.proofs.Laws.{bins-start, fits-here, fits-on}
 use Rattle.points.specs.Kinds.{kindsIn}
-use Rattle.points.proofs.Extra.{put-turn, put-end}
 use Rattle.points.proofs.KindLaws.{kinds-turn, kinds-end}
 use Rattle.points.proofs.kinds.put_value_kinds.Statement.{statement}
 use Rattle.points.proofs.kinds.put_value_kinds.Tie as tie

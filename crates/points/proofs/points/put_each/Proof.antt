@@ -7,7 +7,7 @@ use Rattle.model.specs.Format.{tableOf}
 use Rattle.model.specs.Register.{pointTotal, runStretches}
 use Rattle.arrays.specs.Put.{put}
 use Rattle.arrays.specs.Flat.{hitFlags, allPointCounters}
-use Rattle.points.proofs.Extra.{put-turn, put-end}
+use Rattle.arrays.proofs.Written.{put-turn, put-end}
 use Rattle.points.proofs.AllLaws.{hitsFrom, hits-start, hits-turn, hits-end, all-length, point-number, hits-length, code-read, few-here, rest-room}
 use Rattle.points.proofs.points.put_each.Statement.{statement}
 use Rattle.points.proofs.points.put_each.Tie as tie

@@ -4,7 +4,7 @@ use native.Mathlib.Omega.{arith}
 use borrow.Author.Needs.{needs}
 use lib.ListN.{length, getD, take, length-append}
 use Rattle.model.specs.Format.{tableOf}
-use Rattle.values.proofs.PointLaws.{both-written}
+use Rattle.arrays.proofs.Written.{both-written}
 use Rattle.points.proofs.ValueLaws.{places-ready}
 use Rattle.points.proofs.TransitionExact.{transition-count}
 use Rattle.points.proofs.AllLaws.{hits-length, few-hits, few-bins, hit-parts}

@@ -6,10 +6,11 @@ use lib.ListN.{length, getD}
 use Rattle.model.specs.Counters.{pointCounters}
 use Rattle.model.specs.Format.{tableOf}
 use Rattle.model.specs.Register.{pointTotal}
+use Rattle.model.proofs.RawExact.{few-points}
 use Rattle.arrays.specs.Put.{put}
 use Rattle.arrays.specs.Flat.{totalFlags, allPointCounters, pointStart}
+use Rattle.arrays.proofs.Written.{put-turn}
 use Rattle.points.specs.Spread.{spread}
-use Rattle.points.proofs.Extra.{put-turn, few-points}
 use Rattle.points.proofs.AllLaws.{few-here}
 use Rattle.points.proofs.KindExact.{start-zero, start-next, start-last, start-low}
 use Rattle.points.proofs.ItemLaws.{end-read}

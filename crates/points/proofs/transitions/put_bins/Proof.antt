@@ -4,8 +4,8 @@ use native.Mathlib.Nat.{sub-zero}
 use native.Mathlib.Omega.{arith}
 use lib.ListN.{length, length-append}
 use Rattle.arrays.specs.Put.{put}
+use Rattle.arrays.proofs.Written.{put-turn, put-end}
 use Rattle.points.specs.Transitions.{flagsFrom}
-use Rattle.points.proofs.Extra.{put-turn, put-end}
 use Rattle.points.proofs.TransitionLaws.{bins-turn, bins-end}
 use Rattle.points.proofs.transitions.put_bins.Statement.{statement}
 use Rattle.points.proofs.transitions.put_bins.Tie as tie

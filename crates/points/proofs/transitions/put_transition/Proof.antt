@@ -2,7 +2,7 @@ use mathlib.Core.Path.{refl, ap}
 use native.Mathlib.Omega.{arith}
 use borrow.Author.Needs.{needs}
 use lib.ListN.{length}
-use Rattle.values.proofs.Laws.{as-written, unwritten}
+use Rattle.arrays.proofs.Written.{as-written, unwritten}
 use Rattle.points.proofs.TransitionLaws.{other-point, no-counter, one-counter}
 use Rattle.points.proofs.transitions.put_transition.Statement.{statement}
 use Rattle.points.proofs.transitions.put_transition.Tie as tie

@@ -5,7 +5,7 @@ use lib.ListN.{take, drop, getD}
 use borrow.Author.Tests.{le-leb, lt-leb}
 use Rattle.model.specs.Lists.{all}
 use Rattle.register.specs.Refusals.{atMost}
-use Rattle.register.proofs.Extra.{words-done, words-stop, words-on}
+use Rattle.register.proofs.Loops.{words-done, words-stop, words-on}
 use Rattle.register.proofs.refusals.counts_hold.Statement.{statement}
 use Rattle.register.proofs.refusals.counts_hold.Tie as tie
 

@@ -5,7 +5,7 @@ use native.Mathlib.Nat.{sub-zero}
 use borrow.Author.Tests.{not-true, not-false}
 use Rattle.model.specs.Lists.{all, upFrom}
 use Rattle.register.specs.Refusals.{inWidthAt, inWidthsAt}
-use Rattle.register.proofs.Extra.{numbers-done, numbers-stop, numbers-on}
+use Rattle.register.proofs.Loops.{numbers-done, numbers-stop, numbers-on}
 use Rattle.register.proofs.refusals.in_widths.Statement.{statement}
 use Rattle.register.proofs.refusals.in_widths.Tie as tie
 

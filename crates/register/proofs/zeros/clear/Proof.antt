@@ -1,10 +1,9 @@
-use mathlib.Core.Path.{_≡_, refl, sym, _∙_}
-use mathlib.Core.List.{List}
-use Prim.Native.Nat.{ℕ, _+_, _-_, _≤_, _<_}
+use mathlib.Core.Path.{_≡_, refl, _∙_}
+use Prim.Native.Nat.{_+_, _-_, _≤_}
 use native.Mathlib.Omega.{arith}
-use lib.ListN.{length, set, replicate, length-set}
+use lib.ListN.{length, replicate, length-set}
 use Rattle.arrays.specs.Put.{put}
-use Rattle.arrays.proofs.PutLaws.{put-nil, put-cons, left-suc}
+use Rattle.arrays.proofs.Written.{same-turn, same-end}
 use Rattle.register.proofs.zeros.clear.Statement.{statement}
 use Rattle.register.proofs.zeros.clear.Tie as tie
 
@@ -13,9 +12,6 @@ Inv-loop register₀ at n end i₀ register i = (i ≤ end) × (length register 
 
 abbrev μ-loop : tie.MeasureT-loop
 μ-loop register₀ at n end i₀ register i = end - i
-
-step : (end i : ℕ) (l : List ℕ) → i < end → i < length l → put (i + 1) (replicate (end - (i + 1)) 0) (set l i 0) ≡ put i (replicate (end - i) 0) l
-step end i l h k = rw (left-suc end i h) (put-cons i 0 (replicate (end - (i + 1)) 0) l k)
 
 add-end : tie.Need-add-end Inv-loop μ-loop
 add-end c = omega arith
@@ -42,7 +38,7 @@ loop-again : tie.Need-loop-again Inv-loop μ-loop
 loop-again c =
     let l = c .before .loop in
     let a = c .before .before .args in
-    (omega arith, simp length-set (l .inv .1), step (a .at + a .n) (l .i) (l .register) (omega arith) (omega arith) ∙ l .inv .2)
+    (omega arith, simp length-set (l .inv .1), same-turn (a .at + a .n) (l .i) 0 (l .register) (omega arith) (omega arith) ∙ l .inv .2)
 
 same-length : tie.Need-same-length Inv-loop μ-loop
 same-length c = c .before .loop .inv .1
@@ -51,8 +47,7 @@ returns : tie.Need-returns Inv-loop μ-loop
 returns c =
     let l = c .before .loop in
     let a = c .before .before .args in
-    let z : (a .at + a .n) - l .i ≡ 0 = omega arith in
-    sym (put-nil (l .i) (l .register)) ∙ (rw z at (l .inv .2))
+    same-end (a .at + a .n) (l .i) 0 (l .register) _ (l .inv .2) (omega arith)
 
 pub clear-spec : {M : Type 1} → statement M
 clear-spec =

@@ -5,8 +5,9 @@ use native.Mathlib.Omega.{arith}
 use lib.ListN.{length, set, length-set}
 use Rattle.model.specs.Format.{u32}
 use Rattle.model.specs.Raw.{rows}
+use Rattle.model.proofs.Lists.{one-left}
 use Rattle.arrays.specs.Put.{put}
-use Rattle.arrays.proofs.PutLaws.{put-nil, put-cons, left-suc}
+use Rattle.arrays.proofs.PutLaws.{put-nil, put-cons}
 use Rattle.replay.proofs.entries.put_words.Statement.{statement}
 use Rattle.replay.proofs.entries.put_words.Tie as tie
 
@@ -20,7 +21,7 @@ step : (s : List ℕ) (n i v : ℕ) (l : List ℕ) → v ≡ u32 s (4 * i) → i
 unfolding rows
 step s n i v l d h k =
     let e : 4 * i + 4 ≡ 4 * (i + 1) = omega arith in
-    rw (left-suc n i h, e, ← d) (put-cons i v (rows (u32 s) 4 (4 * (i + 1)) (n - (i + 1))) l k)
+    rw (one-left n i h, e, ← d) (put-cons i v (rows (u32 s) 4 (4 * (i + 1)) (n - (i + 1))) l k)
 
 loop-holds : tie.Need-loop-holds Inv-loop μ-loop
 loop-holds c =

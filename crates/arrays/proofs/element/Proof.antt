@@ -1,8 +1,9 @@
+-- `arrays::element` meets its contract. Assumes nothing.
 use mathlib.Core.Path.{sym}
 use lib.ListN.{List·getD-eq-default}
 use borrow.Author.Needs.{needs}
-use Rattle.marks.proofs.parts.element.Statement.{statement}
-use Rattle.marks.proofs.parts.element.Tie as tie
+use Rattle.arrays.proofs.element.Statement.{statement}
+use Rattle.arrays.proofs.element.Tie as tie
 
 mul-result : tie.Need-mul-result
 mul-result c = search needs

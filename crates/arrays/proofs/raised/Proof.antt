@@ -1,8 +1,8 @@
--- `coverage::tally::raised` meets its contract. Assumes nothing.
+-- `arrays::raised` meets its contract. Assumes nothing.
 use native.Mathlib.Omega.{arith}
 use borrow.Author.Needs.{needs}
-use Rattle.coverage.proofs.tally.raised.Statement.{statement}
-use Rattle.coverage.proofs.tally.raised.Tie as tie
+use Rattle.arrays.proofs.raised.Statement.{statement}
+use Rattle.arrays.proofs.raised.Tie as tie
 
 add-result : tie.Need-add-result
 add-result c = search needs
