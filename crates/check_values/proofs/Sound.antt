@@ -6,11 +6,10 @@ use Prim.Native.Nat.{ℕ, zero, suc, _+_, _*_, _<_, _≤_}
 use native.Mathlib.Nat.{not-suc-le-zero}
 use native.Mathlib.Omega.{arith}
 use borrow.Author.Tests.{ltb-true}
-use Rattle.model.specs.Lists.{sumOf}
-use Rattle.model.specs.Table.{Point, ValueBin, noPoint}
-use Rattle.model.specs.Format.{got, andThen, times, readRecord, byte, u16, sectionCount, ownedCount, readPointSection, readPoint, pointTests, pointRecord, BinHead, binHead, binRules, binTests, defaultsWith, rangesOwned, readBinHeads, readBinSection, readBinRanges, readRangeSection, each}
+use Rattle.model.specs.Table.{Point, noPoint}
+use Rattle.model.specs.Format.{got, andThen, times, readRecord, byte, u16, sectionCount, readPointSection, readPoint, pointTests, pointRecord, BinHead, binHead, binRules, binTests, defaultsWith, readBinHeads, readBinSection}
 use Rattle.model.proofs.Readers.{then-elim, bind-elim, got-record}
-use Rattle.model.proofs.Access.{section-count, owned-count, records}
+use Rattle.model.proofs.Access.{section-count, records}
 use Rattle.words.specs.Points.{PointsBelow}
 use Rattle.ranges.specs.Types.{Wide, AllWide}
 use Rattle.check_values.proofs.Bounds.{within-wide}
@@ -67,13 +66,3 @@ module _ (s : List ℕ) (points at : ℕ) (hs : List BinHead) (end : ℕ) (e : r
       let c = section-count s 0 512 at n next e₁ in
       let y : next + 8 * i ≡ at + 2 + 8 * i = omega (arith, c .begins) in
       subst (λ (x : ℕ). byte s x < points) y (heads-known s points n [] next hs end e₂ i (omega (arith, c .said)))
-
--- ---- their ranges
-
-pub ranges-counted : (s : List ℕ) (ps : List Point) (hs : List BinHead) (at : ℕ) (bs : List ValueBin) (end : ℕ) → readRangeSection s ps hs at ≡ got bs end
-    → (u16 s at ≤ 1024) × (u16 s at ≡ sumOf rangesOwned hs)
-unfolding readRangeSection
-ranges-counted s ps hs at bs end e =
-    bind-elim (ownedCount s 1024 (sumOf rangesOwned hs)) (λ _. each (readBinRanges s ps) hs) at e λ n next e₁ e₂.
-    let c = owned-count s 1024 (sumOf rangesOwned hs) at n next e₁ in
-    (omega (arith, c .0 .said, c .0 .high), c .0 .said ∙ c .1)

@@ -35,8 +35,8 @@ use Rattle.ranges.specs.Taken.{excludedAt}
 use Rattle.left.specs.Left.{leftIn, isSpan}
 use Rattle.left.proofs.LeftLaws.{meets-left}
 use Rattle.values.specs.Points.{hasAutoAt}
-use Rattle.values.proofs.PointExact.{auto-raw, point-raw, few-counters, few-values}
-use Rattle.values.proofs.Ready.{all-near, bins-raw, wide}
+use Rattle.values.proofs.PointExact.{auto-raw, point-raw, few-counters, few-values, bins-raw}
+use Rattle.values.proofs.Ready.{all-near, wide}
 use Rattle.covers.specs.Parts.{partsIn, autoParts, originsIn, pointParts, pointOrigins, leftBit, leftBits, smallBin, Searchable, hasBit}
 use Rattle.covers.proofs.PartsExact.{covers-ranges, covers-origins}
 

@@ -1,7 +1,7 @@
 -- The quotient of two whole numbers that a float holds exactly is rounded once.
 -- Assumes nothing.
 use mathlib.Core.Path.{_≡_, sym, _∙_}
-use mathlib.Core.Bool.{Bool, false}
+use mathlib.Core.Bool.{false}
 use Prim.Native.Nat.{ℕ, _*_, _^_, _≤_, _<_}
 use native.Mathlib.Nat.{mul-one, mul-assoc, mul-comm, mul-pos, zero-mul}
 use native.Mathlib.Omega.{arith}

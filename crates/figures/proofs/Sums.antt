@@ -1,6 +1,6 @@
 -- The group's two sums: item by item they come to those of all items, and their quotient is the model's figure of the group.
 -- Assumes nothing.
-use Prim.Native.Nat.{ℕ, zero, suc, _+_, _-_, _*_, _/_, _^_, _≤_, _<_}
+use Prim.Native.Nat.{ℕ, suc, _+_, _-_, _*_, _/_, _^_, _≤_, _<_}
 use mathlib.Core.Path.{_≡_, refl, ap, ap₂, sym, _∙_}
 use mathlib.Core.Bool.{Bool, true, false, not, cond}
 use mathlib.Core.List.{List, [], _∷_, _++_, map}
@@ -120,10 +120,6 @@ figure-bound items h g e f k m p =
     group-bound items h m (sym (mean-sums items) ∙ ap mean (sym e) ∙ millionths-some (mean g) m (sym k ∙ p))
 
 -- ---- the items of a table
-
-pub table-items : (t : Table) (ctrs : List Counter) (ns : List ℕ) → groupOf (itemsFrom (itemAt t ctrs ns) 0 (itemCount t)) ≡ groupFigure t ctrs ns
-unfolding itemsFrom groupFigure
-table-items t ctrs ns = refl
 
 pub table-figure-bound : (t : Table) (ctrs : List Counter) (ns : List ℕ) (f : GroupFigure) → f ≡ groupCase (groupFigure t ctrs ns)
     → (m : ℕ) → f ≡ Millionths m → GroupBound (map (itemAt t ctrs ns) (upFrom 0 (itemCount t))) m

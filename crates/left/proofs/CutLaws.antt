@@ -18,7 +18,7 @@ use Rattle.model.specs.Raw.{rows, rangesAt}
 use Rattle.model.proofs.Booleans.{false-true}
 use Rattle.model.proofs.Readers.{All, all-append}
 use Rattle.model.proofs.NextValue.{IsSpan}
-use Rattle.words.proofs.Laws.{none-left, one-left}
+use Rattle.model.proofs.Lists.{none-left, one-left}
 use Rattle.ranges.specs.Types.{valueAt}
 use Rattle.left.specs.Left.{leftIn, isSpan}
 use Rattle.left.proofs.LeftLaws.{left-empty}

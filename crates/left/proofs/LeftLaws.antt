@@ -17,8 +17,8 @@ use Rattle.model.specs.Ranges.{noValue, nextInRange, nextIn, after, coverRanges
 use Rattle.model.specs.Raw.{rows, rangesAt}
 use Rattle.model.proofs.NextValue.{next-ge}
 use Rattle.model.proofs.Searches.{any-map}
+use Rattle.model.proofs.Lists.{any-none}
 use Rattle.ranges.specs.Types.{valueAt}
-use Rattle.ranges.proofs.Searches.{any-none}
 use Rattle.left.specs.Left.{isLeft, leftFrom, leftAfter, leftIn, coversAt}
 
 -- `meetsIn` is `leftIn` of the bin's ranges and the excluded ones

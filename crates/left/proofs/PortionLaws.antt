@@ -13,7 +13,7 @@ use borrow.Author.Tests.{eq-eqb, ne-eqb, lt-ltb, le-ltb, ltb-false}
 use Rattle.model.specs.Lists.{sumOf}
 use Rattle.model.specs.Table.{Range, span}
 use Rattle.model.specs.Ranges.{noValue, nextIn, ascending, sizes, cutRange, cutRanges, portionRanges}
-use Rattle.words.proofs.Laws.{none-left, one-left}
+use Rattle.model.proofs.Lists.{none-left, one-left}
 use Rattle.left.specs.Left.{leftIn, nthOf}
 
 -- ---- the j-th value

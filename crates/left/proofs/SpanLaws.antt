@@ -13,8 +13,7 @@ use Rattle.model.specs.Table.{Range, span}
 use Rattle.model.specs.Values.{inRanges}
 use Rattle.model.specs.Ranges.{noValue, nextIn, after}
 use Rattle.left.specs.Left.{leftFrom, leftAfter, leftIn}
-use Rattle.model.proofs.Runs.{any-cong}
-use Rattle.ranges.proofs.Searches.{any-none}
+use Rattle.model.proofs.Lists.{any-none, any-cong}
 use Rattle.left.proofs.LeftLaws.{left-split, from-past, from-found}
 
 -- ---- one candidate of a span

@@ -18,7 +18,7 @@ use Rattle.model.specs.Raw.{rows, crossesAt, tokenTotal, recordCount, rawTable}
 use Rattle.model.proofs.Booleans.{and-left, and-right, bool-eq}
 use Rattle.model.proofs.Readers.{All}
 use Rattle.model.proofs.WellFormed.{InPoints}
-use Rattle.words.proofs.Laws.{none-left, one-left}
+use Rattle.model.proofs.Lists.{none-left, one-left}
 use Rattle.limits.specs.Walks.{walkSum, after}
 use Rattle.limits.specs.Bins.{entry, here, capped, crossPoint, pointsFrom, crossProducts, crossFits}
 use Rattle.limits.proofs.WalkLaws.{walk-cons}

@@ -14,7 +14,7 @@ use Rattle.model.specs.Table.{ValueBin}
 use Rattle.model.specs.Format.{byte, u16}
 use Rattle.model.specs.Raw.{rows, binAt, binsAt}
 use Rattle.model.proofs.Booleans.{and-left, and-right}
-use Rattle.words.proofs.Laws.{none-left, one-left}
+use Rattle.model.proofs.Lists.{none-left, one-left}
 use Rattle.limits.specs.Bins.{more, added, Entries, here, spannedBy, countable, formAt, ownRanges, binPoint}
 
 -- ---- one entry

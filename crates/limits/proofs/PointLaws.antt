@@ -23,7 +23,6 @@ use Rattle.model.proofs.Access.{points-access, bins-access}
 use Rattle.model.proofs.Measure.{sum-add}
 use Rattle.model.proofs.RawValues.{length-bins}
 use Rattle.ranges.specs.Types.{AllWide}
-use Rattle.ranges.proofs.Searches.{bins-length}
 use Rattle.layout.specs.Places.{layoutOf, Small}
 use Rattle.layout.specs.declared.Layout.{Layout}
 use Rattle.limits.specs.Walks.{Readable}

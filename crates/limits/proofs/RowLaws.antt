@@ -13,7 +13,7 @@ use Rattle.model.specs.Lists.{upFrom, any, all, sumOf}
 use Rattle.model.specs.Raw.{rows}
 use Rattle.model.proofs.Booleans.{and-left, and-right}
 use Rattle.model.proofs.Readers.{All}
-use Rattle.words.proofs.Laws.{none-left, one-left}
+use Rattle.model.proofs.Lists.{none-left, one-left}
 use Rattle.limits.specs.Walks.{walkSum, after}
 use Rattle.limits.specs.Bins.{here}
 use Rattle.limits.proofs.WalkLaws.{walk-cons}

@@ -5,7 +5,7 @@ use Prim.Native.Nat.{ℕ, zero, suc, _+_, _-_, _≤_, _<_}
 use native.Mathlib.Nat.{sub-zero}
 use native.Mathlib.Omega.{arith}
 use borrow.Author.Needs.{needs}
-use Rattle.words.proofs.Laws.{none-left, one-left}
+use Rattle.model.proofs.Lists.{none-left, one-left}
 use Rattle.limits.specs.Walks.{walkSum}
 
 module _ {S : Type 0} (f : S → ℕ) (next : S → S) where

@@ -8,7 +8,7 @@ use native.Mathlib.Omega.{arith}
 use native.Mathlib.Nat.{mul-comm}
 use lib.ListN.{length, getD}
 use Rattle.model.specs.Table.{Point, Table}
-use Rattle.model.specs.Format.{got, done, u16, recordSizes, BinHead, binHead, readPointSection, readBinSection, readRangeSection, readTransitionBins, readCrosses, readTable, decode, decoded, pointRecord, accepted, tableOf}
+use Rattle.model.specs.Format.{u16, recordSizes, BinHead, binHead, readPointSection, readBinSection, readRangeSection, readTransitionBins, readCrosses, readTable, decode, decoded, pointRecord, accepted, tableOf}
 use Rattle.model.specs.Raw.{countPlace, recordCount, recordsPlace, rows, rawTable}
 use Rattle.model.proofs.Sections.{acceptance, accepted-decodes, accepted-layout}
 use Rattle.model.proofs.RawLaws.{Says, says-to, says-bind, says-got, length-rows}

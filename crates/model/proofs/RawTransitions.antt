@@ -1,14 +1,14 @@
 -- Sections 4 to 7 by their places: what was got of them is what `Raw` says.
 -- Assumes nothing.
-use mathlib.Core.Path.{_≡_, refl, sym, ap, _∙_, subst}
+use mathlib.Core.Path.{_≡_, refl, sym, ap, _∙_}
 use mathlib.Core.Bool.{true}
 use mathlib.Core.List.{List, [], _∷_, _++_}
 use Prim.Native.Nat.{ℕ, zero, suc, _+_, _*_, _-_, _≤_}
 use native.Mathlib.Omega.{arith}
 use lib.ListN.{length, getD}
 use Rattle.model.specs.Lists.{sumOf}
-use Rattle.model.specs.Table.{Point, Step, noPoint}
-use Rattle.model.specs.Format.{Read, got, Reader, tested, disagreement, _>>=_, done, times, each, byte, u16, sectionCount, TransitionHead, StepHead, rangesOfStep, sequencesOwned, stepsOwned, stepRangesOwned, withOwned, transitionTests, transitionHead, readTransition, readSequence, readSequences, stepTests, stepHead, readStep, sumsOk, readSteps, readBinSteps, rangeTests, rangeRecord, readRange, readStepRanges, readTransitionRanges, readTransitionSection, readSequenceSection, readStepSection, readStepRangeSection, readTransitionBins}
+use Rattle.model.specs.Table.{Point, noPoint}
+use Rattle.model.specs.Format.{_>>=_, times, each, byte, u16, sectionCount, rangesOfStep, sequencesOwned, stepsOwned, stepRangesOwned, withOwned, transitionTests, transitionHead, readTransition, readSequence, readSequences, stepTests, stepHead, readStep, readSteps, readBinSteps, rangeTests, rangeRecord, readRange, readStepRanges, readTransitionRanges, readTransitionSection, readSequenceSection, readStepSection, readStepRangeSection, readTransitionBins}
 use Rattle.model.specs.Raw.{rows, lengthsAt, stepTotal, lengthHeadsAt, stepHeadsAt, sequenceHeadsAt, transitionHeadsAt, rangeTotal, stepAt, stepsAt, sequencesAt, transitionAt, transitionsAt}
 use Rattle.model.proofs.Readers.{got-tested, done-elim}
 use Rattle.model.proofs.RawLaws.{Says, says-to, says-map, rows-add, sum-append, says-bind, says-owned, says-record, says-cons, says-got, says-times}

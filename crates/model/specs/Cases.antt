@@ -10,7 +10,7 @@ use Rattle.model.specs.Values.{distinctValues, inBin, inRanges, listedVa
 use Rattle.model.specs.Counters.{counters, coverBins, crossBinCounters, crossCounters, crossParts, distributed, excludedValue, hasAuto, hasValue, holds, listedValue, meets, pointCounters, productOf, products, selects, transitionCounters, tuples, valueCounters, withinLimits}
 use Rattle.model.specs.Sampling.{blockSizes, coverHit, excludedMatch, guardTrue, hits, matchedLengths, nextSteps, productHit, reading}
 use Rattle.model.specs.Figures.{covered, figureOf, groupFigure, groupOf, inTotal, itemFigure, itemOf, total}
-use Rattle.model.specs.Format.{_>>=_, accepted, allDifferent, binRules, coverBinOf, decode, each, expressions, patternTests, rangeRules, readBinHeads, readBinRanges, readBinSection, readBinSteps, readCross, readCrossBin, readCrossBinSection, readCrossBins, readCrossSection, readCrosses, readPoint, readPointSection, readRange, readRangeSection, readRecord, readSelect, readSelects, readSequence, readSequenceSection, readSequences, readStep, readStepRangeSection, readStepRanges, readStepSection, readSteps, readTable, readToken, readTokenSection, readTransition, readTransitionBins, readTransitionRanges, readTransitionSection, tableOf, tested, times, tokenRules, u16, u32, u64, value, valueTests}
+use Rattle.model.specs.Format.{_>>=_, accepted, allDifferent, binRules, coverBinOf, decode, each, expressions, patternTests, rangeRules, readBinHeads, readBinRanges, readBinSection, readBinSteps, readCross, readCrossBin, readCrossBinSection, readCrossBins, readCrossSection, readCrosses, readPoint, readPointSection, readRange, readRangeSection, readRecord, readSelect, readSelects, readSequence, readSequenceSection, readSequences, readStep, readStepRangeSection, readStepRanges, readStepSection, readSteps, readTable, readToken, readTokenSection, readTransition, readTransitionBins, readTransitionRanges, readTransitionSection, tableOf, tested, times, tokenRules, u16, u32, u64, valueTests}
 use Rattle.model.specs.Register.{Call, accept, allLengths, binLengths, call, callTests, consistent, countsOf, illegalTotal, inWidths, measure, nextRuns, onTable, reportWords, reset, restarted, runsOf, sample, sampledReport, sampledWords, sequences, start, stop, unknownsOf, wordsNeeded}
 use Rattle.model.specs.Reference.{counterValue, counterValues, history, matches, newReference, referenceAfter, referenceAfterCalls, referenceResponse, referenceStep, referenceTests, referenceWords, registerAfter, runWord, runWords, samplesIn, traceStretches, unknownCount, unknownCounts}
 use Rattle.model.specs.Build.{binOf, empty, le, patternOf, pointOf, spanOf, stepOf, transitionOf}

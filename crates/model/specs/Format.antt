@@ -642,11 +642,7 @@ wholeRead size (got t at) = cond (eqb at size) (limited size t) (rejected (recor
 unfoldable pub decode : List ℕ → Outcome
 decode s = cond (leb (length s) 65536) (wholeRead (length s) (readTable s 0)) (rejected (record { class = tooLong; at = 0 }))
 
--- The refusal number, 0 for an accepted table; whether it is accepted; and the table, with nothing in it if it is refused.
-abbrev pub numberFrom : Outcome → ℕ
-numberFrom (rejected f) = numberOf (f .class)
-numberFrom (decoded t) = 0
-
+-- whether the table is accepted; the table, with nothing in it if it is refused
 abbrev pub isDecoded : Outcome → Bool
 isDecoded (rejected f) = false
 isDecoded (decoded t) = true
@@ -654,9 +650,6 @@ isDecoded (decoded t) = true
 abbrev pub tableFrom : Outcome → Table
 tableFrom (rejected f) = noTable
 tableFrom (decoded t) = t
-
-unfoldable pub refusalOf : List ℕ → ℕ
-refusalOf s = numberFrom (decode s)
 
 unfoldable pub accepted : List ℕ → Bool
 accepted s = isDecoded (decode s)

@@ -8,7 +8,7 @@ use mathlib.Core.Option.{Option, none, some}
 use lib.ListN.{getD}
 use Rattle.model.specs.Lists.{sumOf}
 use Rattle.model.specs.Table.{Point, Range, ValueBin, Step, TransitionBin, Select, whole, CrossBin, Cross, Table}
-use Rattle.model.specs.Format.{byte, u16, pointRecord, BinHead, binHead, rangeRecord, withRanges, TransitionHead, transitionHead, withOwned, StepHead, stepHead, rangesOfStep, CrossHead, crossHead, CrossBinHead, crossBinHead, CrossParts, tokensOf, crossPoints, tokenRecord, expressions, recordSizes}
+use Rattle.model.specs.Format.{byte, u16, pointRecord, binHead, rangeRecord, withRanges, TransitionHead, transitionHead, withOwned, StepHead, stepHead, rangesOfStep, crossHead, CrossBinHead, crossBinHead, CrossParts, tokensOf, crossPoints, tokenRecord, expressions, recordSizes}
 
 -- ---- places
 

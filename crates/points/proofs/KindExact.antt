@@ -33,8 +33,7 @@ use Rattle.layout.specs.Places.{layoutOf}
 use Rattle.values.specs.Flags.{fixedFlags}
 use Rattle.values.specs.Points.{hasAutoAt, autoPart}
 use Rattle.values.proofs.FlagsExact.{cover-exact}
-use Rattle.values.proofs.PointExact.{auto-raw, few-values}
-use Rattle.values.proofs.Ready.{bins-raw}
+use Rattle.values.proofs.PointExact.{auto-raw, few-values, bins-raw}
 use Rattle.points.specs.Kinds.{kindsBy, binKinds, kindsIn, transitionKind, transitionKinds, transitionKindsFrom}
 use Rattle.points.proofs.ValueLaws.{record-is}
 use Rattle.points.proofs.TransitionExact.{bins-are}

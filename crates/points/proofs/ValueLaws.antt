@@ -34,8 +34,8 @@ use Rattle.values.specs.Flags.{Hit, hit, coverFlags, flagsBy, binFlags, flagsIn
 use Rattle.values.specs.Points.{hasAutoAt, autoPart, pointFlags, Near}
 use Rattle.values.proofs.Laws.{length-fixed}
 use Rattle.values.proofs.FlagsExact.{cover-exact}
-use Rattle.values.proofs.PointExact.{auto-raw, point-raw, point-exact, few-counters, few-values}
-use Rattle.values.proofs.Ready.{bins-raw, all-near, all-fit, wide, some-auto, read-top}
+use Rattle.values.proofs.PointExact.{auto-raw, point-raw, point-exact, few-counters, few-values, bins-raw}
+use Rattle.values.proofs.Ready.{all-near, all-fit, wide, some-auto, read-top}
 use Rattle.points.specs.Hits.{valueHits}
 use Rattle.points.proofs.ReadingLaws.{value-in}
 use Rattle.points.proofs.Counted.{no-hits}

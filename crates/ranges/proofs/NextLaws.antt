@@ -2,7 +2,7 @@
 -- Assumes nothing.
 use mathlib.Core.Path.{_≡_, refl, sym, ap, ap₂, _∙_}
 use mathlib.Core.Bool.{Bool, true, false, cond}
-use mathlib.Core.List.{List, [], _∷_}
+use mathlib.Core.List.{List, _∷_}
 use Prim.Native.Nat.{ℕ, zero, suc, _+_, _*_, _-_, _/_, _%_, _^_, _≤_, _<_, min, max}
 use native.Mathlib.Nat.{sub-zero, pow-suc}
 use native.Mathlib.Omega.{arith}
@@ -15,8 +15,8 @@ use Rattle.model.specs.Values.{fieldValue}
 use Rattle.model.specs.Format.{byte, u64, rangeRecord}
 use Rattle.model.specs.Ranges.{noValue, patternFrom, nextInRange, nextIn}
 use Rattle.model.specs.Raw.{rows, rangesAt}
-use Rattle.model.proofs.NextValue.{pattern-ge, next-ge}
-use Rattle.words.proofs.Laws.{none-left, one-left}
+use Rattle.model.proofs.NextValue.{pattern-ge, next-ge, next-below}
+use Rattle.model.proofs.Lists.{none-left, one-left}
 use Rattle.ranges.specs.Types.{valueAt}
 
 -- ---- patterns
@@ -64,11 +64,6 @@ module _ (s : List ℕ) (at x k a b : ℕ) (ek : k ≡ byte s at) (ea : a ≡ u6
 pub ruleset nexts = (needs, pattern-end, pattern-half, next-span, next-pattern)
 
 -- ---- ranges in a row
-
-pub next-below : (rs : List Range) (x : ℕ) → nextIn rs x ≤ noValue
-unfolding nextIn
-next-below [] x = omega arith
-next-below (r ∷ rs) x = omega (arith, next-below rs x)
 
 -- from 2^33 up there is no value
 pub next-least : (rs : List Range) (x from : ℕ) → from ≡ min x noValue → nextIn rs x ≡ nextIn rs from

@@ -4,25 +4,19 @@
 use mathlib.Core.Path.{_≡_, refl, sym, ap, _∙_}
 use mathlib.Core.Bool.{Bool, true, false, _||_, or-assoc}
 use mathlib.Core.List.{List, [], _∷_, _++_}
-use Prim.Native.Nat.{ℕ, zero, suc, _+_, _*_, _-_, _≤_, _<_}
+use Prim.Native.Nat.{ℕ, _+_, _*_, _-_, _≤_, _<_}
 use native.Mathlib.Nat.{sub-zero}
 use borrow.Author.Needs.{needs}
-use lib.ListN.{length}
 use Rattle.model.specs.Lists.{any}
 use Rattle.model.specs.Table.{ValueBin}
 use Rattle.model.specs.Format.{u16}
 use Rattle.model.specs.Raw.{rows, binAt, binsAt}
-use Rattle.words.proofs.Laws.{none-left, one-left}
+use Rattle.model.proofs.Lists.{none-left, one-left}
 
 pub any-append : {A : Type 0} (f : A → Bool) (xs ys : List A) → any f (xs ++ ys) ≡ (any f xs || any f ys)
 unfolding any
 any-append f [] ys = refl
 any-append f (x ∷ xs) ys = ap (f x ||_) (any-append f xs ys) ∙ sym (or-assoc (f x) (any f xs) (any f ys))
-
-pub any-none : {A : Type 0} (f : A → Bool) (xs : List A) → ((x : A) → f x ≡ false) → any f xs ≡ false
-unfolding any
-any-none f [] h = refl
-any-none f (x ∷ xs) h = ap (_|| any f xs) (h x) ∙ any-none f xs h
 
 or-first : (a b c : Bool) → a ≡ b → b ≡ true → true ≡ (a || c)
 or-first a b c e h = sym (ap (_|| c) (e ∙ h))
@@ -54,11 +48,6 @@ module _ {A : Type 0} (f : A → Bool) (says : ℕ → A) (size : ℕ) where
         step ∙ or-second (f (says at)) y (any f (rows says size (at + size) (n - (i + 1)))) (sym e) z
 
 -- ---- value bins in a row
-
-pub bins-length : (s : List ℕ) (b r n : ℕ) → length (binsAt s b r n) ≡ n
-unfolding binsAt
-bins-length s b r zero = refl
-bins-length s b r (suc n) = ap suc (bins-length s (b + 8) (r + 17 * u16 s (b + 6)) n)
 
 module _ (f : ValueBin → Bool) (s : List ℕ) where
   pub bins-any-start : (b r n : ℕ) → any f (binsAt s b r n) ≡ any f (binsAt s b r (n - 0))

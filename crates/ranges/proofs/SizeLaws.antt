@@ -14,7 +14,7 @@ use Rattle.model.specs.Values.{fieldValue}
 use Rattle.model.specs.Format.{byte, u64, rangeRecord}
 use Rattle.model.specs.Ranges.{size, sizes}
 use Rattle.model.specs.Raw.{rows, rangesAt}
-use Rattle.words.proofs.Laws.{none-left, one-left}
+use Rattle.model.proofs.Lists.{none-left, one-left}
 use Rattle.ranges.specs.Types.{valueAt}
 
 -- ---- one range

@@ -3,26 +3,18 @@
 use mathlib.Core.Path.{_≡_, refl, sym, ap, ap₂, _∙_}
 use mathlib.Core.Bool.{Bool, true, false, _&&_, _||_, cond}
 use mathlib.Core.List.{List, [], _∷_}
-use Prim.Native.Nat.{ℕ, zero, suc, _+_}
-use native.Mathlib.Omega.{arith}
+use Prim.Native.Nat.{ℕ, _+_}
 use lib.Dec.{eqb}
 use borrow.Author.Needs.{needs}
-use borrow.Author.Tests.{ne-eqb}
 use Rattle.model.specs.Lists.{any}
 use Rattle.model.specs.Table.{Range, ValueBin, excludes}
 use Rattle.model.specs.Values.{inRanges}
-use Rattle.model.specs.Format.{u16, kindFrom}
+use Rattle.model.specs.Format.{u16}
 use Rattle.model.specs.Ranges.{rangesOf}
 use Rattle.model.specs.Raw.{rangesAt, binAt}
 use Rattle.ranges.specs.Taken.{holding, taking, takenBy}
 use Rattle.ranges.proofs.Searches.{any-append}
 use Rattle.ranges.proofs.MemberLaws.{in-any}
-
-pub excludes-kind : (k : ℕ) → (eqb k 1 || eqb k 2) ≡ excludes (kindFrom k)
-excludes-kind zero = refl
-excludes-kind (suc zero) = refl
-excludes-kind (suc (suc zero)) = refl
-excludes-kind (suc (suc (suc k))) = rw (ne-eqb (suc (suc (suc k))) 1 (λ e. omega arith), ne-eqb (suc (suc (suc k))) 2 (λ e. omega arith))
 
 -- a search over the ranges that some bins take is one over the bins
 any-chosen : (f : Range → Bool) (c : Bool) (rs : List Range) → any f (cond c rs []) ≡ cond c (any f rs) false

@@ -53,10 +53,6 @@ module _ (s : List ℕ) where
       let d : recordsPlace s k + n - recordsPlace s k ≡ n = omega arith in
       rw (lt-ltb k 10, le-leb (recordsPlace s k + n) (length s), d) (sym (from-front k 0 k (omega arith) h))
 
-  pub section-by-number : (number : ℕ) → 1 ≤ number → number ≤ 10 → countPlace s number ≤ length s → sectionBytes s number ≡ sectionFrom s 0 recordSizes (number - 1)
-  section-by-number zero l h g = absurd (omega arith)
-  section-by-number (suc k) l h g = let d : suc k - 1 ≡ k = omega arith in rw d (section-front k (omega arith) g)
-
   -- the same for every number, in a table whose ten sections end within it
   all-front : countPlace s 10 ≤ length s → (t : Table) (number : ℕ) → sectionBytes s number ≡ sectionOf (decoded t) s number
   unfolding sectionBytes sectionPart

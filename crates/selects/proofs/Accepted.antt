@@ -6,9 +6,8 @@ use mathlib.Core.Option.{Option, some}
 use Prim.Native.Nat.{ℕ, zero, suc, _+_, _*_, _≤_}
 use native.Mathlib.Omega.{arith}
 use lib.ListN.{length}
-use Rattle.model.specs.Lists.{sumOf}
 use Rattle.model.specs.Table.{Point, Select, CrossBin, Cross, Table}
-use Rattle.model.specs.Format.{BinHead, Read, got, byte, u16, each, ownedCount, crossPoints, crossHead, crossBinHead, CrossParts, CrossBinHead, tokensOwned, tokenTests, tokenRecord, readToken, expressions, readSelect, readSelects, readPointSection, readBinSection, readRangeSection, readTransitionBins, readCrossSection, readCrossBinSection, readTokenSection, readCrosses, readTable, decode, decoded}
+use Rattle.model.specs.Format.{BinHead, got, byte, u16, each, crossPoints, crossHead, crossBinHead, CrossParts, CrossBinHead, tokenTests, tokenRecord, readToken, expressions, readSelect, readSelects, readBinSection, readRangeSection, readTransitionBins, readCrossBinSection, readTokenSection, readCrosses, readTable, decode, decoded}
 use Rattle.model.specs.Raw.{countPlace, recordCount, recordsPlace, rows, onlyOf, selectAt, tokenTotal, crossBinHeadsAt, crossHeadsAt}
 use Rattle.model.proofs.Readers.{bind-elim, got-record, Consed, consed, got-cons}
 use Rattle.model.proofs.Sections.{acceptance}

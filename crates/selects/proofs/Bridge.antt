@@ -11,10 +11,8 @@ use lib.Dec.{ltb, eqb}
 use borrow.Author.Tests.{le-ltb, ne-eqb}
 use Rattle.model.specs.Lists.{asBit}
 use Rattle.model.specs.Table.{Table, Select, whole, named, meeting, negated, both, either}
-use Rattle.model.specs.Values.{fieldValue}
 use Rattle.model.specs.Counters.{CoverBin, noCoverBin, isFrom, meets, selects}
-use Rattle.model.specs.Ranges.{meetsIn, selectsIn}
-use Rattle.model.specs.Format.{byte, u16, u64, Token, leaf, notToken, andToken, orToken, tokenFrom, tokenRecord, prefix, expressions}
+use Rattle.model.specs.Format.{byte, Token, leaf, notToken, andToken, orToken, tokenFrom, tokenRecord, prefix, expressions}
 use Rattle.model.specs.Raw.{rows, selectAt}
 use Rattle.model.proofs.RawLaws.{length-rows}
 use Rattle.model.proofs.Readers.{All}
@@ -23,7 +21,7 @@ use Rattle.model.proofs.RunBits.{asBit-eqb}
 use Rattle.selects.specs.declared.expressions.Answer.{Answer}
 use Rattle.selects.specs.Evaluator.{answer, evalAt, valueOf}
 use Rattle.selects.specs.Single.{Single}
-use Rattle.selects.specs.Told.{LeafTold, ToldBy, LeavesTold, LeavesToldIn, leafBit, leafAt}
+use Rattle.selects.specs.Told.{LeafTold, ToldBy, LeavesTold, leafBit, leafAt}
 
 -- ---- a token by its op
 
@@ -207,21 +205,11 @@ module _ (t : Table) (cs : List CoverBin) (s truth : List ℕ) (k n : ℕ) where
   pub told-selects : (v : Bool) → v ≡ valueOf s truth k n → (e : Select) → expressions (rows (tokenRecord s) 20 k n) ≡ some (e ∷ []) → LeavesTold t cs s truth k n → v ≡ selects t e cs
   told-selects v q e z told = q ∙ value-selects told e z
 
-  -- the same where the leaves are told by the bins' ranges
-  pub value-selectsIn : LeavesToldIn t cs s truth k n → (e : Select) → expressions (rows (tokenRecord s) 20 k n) ≡ some (e ∷ []) → valueOf s truth k n ≡ selectsIn t e cs
-  unfolding LeavesToldIn selectsIn
-  value-selectsIn told =
-      value-of (λ e. selectsIn t e cs) (λ e. refl) (λ e g. refl) (λ e g. refl) s truth k n (leaf-told (λ e. selectsIn t e cs) s truth k n told)
-
 -- the expression that the bytes say, by values and by ranges
 module _ (t : Table) (cs : List CoverBin) (s truth : List ℕ) (k n : ℕ) (one : Single s k n) (v : Bool) (q : v ≡ valueOf s truth k n) where
   pub selectAt-told : LeavesTold t cs s truth k n → v ≡ selects t (selectAt s k n) cs
   unfolding Single
   selectAt-told told = q ∙ value-selects t cs s truth k n told (selectAt s k n) one
-
-  pub selectAt-toldIn : LeavesToldIn t cs s truth k n → v ≡ selectsIn t (selectAt s k n) cs
-  unfolding Single
-  selectAt-toldIn told = q ∙ value-selectsIn t cs s truth k n told (selectAt s k n) one
 
 -- ---- the truth of a leaf, by its op
 
@@ -245,30 +233,3 @@ module _ (t : Table) (cs : List CoverBin) (s truth : List ℕ) (k n : ℕ) where
       let at = k + 20 * i in
       subst (λ (b : ℕ). LeafTold (λ e. selects t e cs) (tokenRecord s at) b) (sym (filled i h))
       (from-told (meets t) (λ e. selects t e cs) cs (λ i. refl) (λ i b. refl) (λ i lo hi. refl) (byte s at) _ _ _ _)
-
-  pub filled-toldIn : ((i : ℕ) → i < n → getD truth i 0 ≡ leafAt (meetsIn t) cs s (k + 20 * i)) → LeavesToldIn t cs s truth k n
-  unfolding LeavesToldIn ToldBy selectsIn
-  filled-toldIn filled i h =
-      let at = k + 20 * i in
-      subst (λ (b : ℕ). LeafTold (λ e. selectsIn t e cs) (tokenRecord s at) b) (sym (filled i h))
-      (from-told (meetsIn t) (λ e. selectsIn t e cs) cs (λ i. refl) (λ i b. refl) (λ i lo hi. refl) (byte s at) _ _ _ _)
-
--- each case of `leafAt`, by the token's op
-module _ (m : CoverBin → ℕ → ℕ → Bool) (cs : List CoverBin) (s : List ℕ) (at : ℕ) where
-  pub leaf-whole : byte s at ≡ 0 → leafAt m cs s at ≡ 1
-  leaf-whole h = rw h
-
-  pub leaf-named : byte s at ≡ 1 → leafAt m cs s at ≡ asBit (isFrom (u16 s (at + 2)) (getD cs (byte s (at + 1)) noCoverBin))
-  leaf-named h = rw h
-
-  pub leaf-meeting : byte s at ≡ 2 → leafAt m cs s at ≡ asBit (m (getD cs (byte s (at + 1)) noCoverBin) (fieldValue (u64 s (at + 4))) (fieldValue (u64 s (at + 12))))
-  leaf-meeting h = rw h
-
-  pub leaf-none : 3 ≤ byte s at → leafAt m cs s at ≡ 0
-  leaf-none h = go (byte s at) h
-    where
-      go : (op : ℕ) → 3 ≤ op → leafBit m cs op (byte s (at + 1)) (u16 s (at + 2)) (fieldValue (u64 s (at + 4))) (fieldValue (u64 s (at + 12))) ≡ 0
-      go zero h = absurd (let z : 3 ≤ 0 = h in omega arith)
-      go (suc zero) h = absurd (let z : 3 ≤ 1 = h in omega arith)
-      go (suc (suc zero)) h = absurd (let z : 3 ≤ 2 = h in omega arith)
-      go (suc (suc (suc n))) h = refl

@@ -1,16 +1,16 @@
 -- What `evalAt` is in each case of the code.
 -- Assumes nothing.
-use mathlib.Core.Path.{_≡_, refl, ap, sym, _∙_}
-use mathlib.Core.Bool.{Bool, true, false, not, _&&_, _||_, cond}
+use mathlib.Core.Path.{_≡_, refl, _∙_}
+use mathlib.Core.Bool.{false, not, _&&_, _||_}
 use mathlib.Core.List.{List}
 use Prim.Native.Nat.{ℕ, zero, suc, _+_, _*_, _-_, _≤_, _<_}
 use native.Mathlib.Omega.{arith}
 use lib.ListN.{getD}
-use lib.Dec.{ltb, eqb}
-use borrow.Author.Tests.{lt-ltb, le-ltb, eq-eqb, ne-eqb}
+use lib.Dec.{eqb}
+use borrow.Author.Tests.{lt-ltb, le-ltb, ne-eqb}
 use Rattle.model.specs.Format.{byte}
 use Rattle.selects.specs.declared.expressions.Answer.{Answer}
-use Rattle.selects.specs.Evaluator.{answer, joined, evalAt}
+use Rattle.selects.specs.Evaluator.{answer, evalAt}
 
 module _ (s truth : List ℕ) (k : ℕ) where
   -- a depth of as many as are left is enough

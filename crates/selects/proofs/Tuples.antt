@@ -8,8 +8,7 @@ use native.Mathlib.Omega.{arith}
 use lib.ListN.{length, getD, drop, length-map, List·getD-append}
 use lib.Seq.{getD-append-add, drop-cons}
 use Rattle.model.specs.Lists.{concatOf}
-use Rattle.model.specs.Table.{Table}
-use Rattle.model.specs.Counters.{CoverBin, noCoverBin, tuples, crossParts, products, productOf, productCount}
+use Rattle.model.specs.Counters.{CoverBin, noCoverBin, tuples, productOf}
 use Rattle.model.proofs.Lists.{getD-map}
 use Rattle.model.proofs.Limits.{each-length}
 use Rattle.selects.specs.Products.{many, turns, digits, pick}
@@ -99,10 +98,6 @@ tuple-at (cs ∷ css) i h =
     ap (λ (x : ℕ). getD (concatOf (λ c. map (c ∷_) (tuples css)) cs) x []) (sym place)
     ∙ block-at (tuples css) cs q r in-part (rw (tuples-many css) in-rest)
     ∙ ap₂ (λ (d : ℕ) (x : List CoverBin). getD cs d noCoverBin ∷ x) (sym digit) (tuple-at css r in-rest ∙ ap (pick css) (sym others))
-
-pub product-at : (t : Table) (c i : ℕ) → i < productCount t c → getD (products t c) i [] ≡ pick (crossParts t c) (digits (map length (crossParts t c)) i)
-unfolding products
-product-at t c i h = tuple-at (crossParts t c) i (rw (many-products (crossParts t c)) h)
 
 -- ---- the parts of a tuple
 

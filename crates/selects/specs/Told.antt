@@ -9,7 +9,6 @@ use Rattle.model.specs.Lists.{asBit}
 use Rattle.model.specs.Table.{Table, Select}
 use Rattle.model.specs.Values.{fieldValue}
 use Rattle.model.specs.Counters.{CoverBin, noCoverBin, isFrom, selects}
-use Rattle.model.specs.Ranges.{selectsIn}
 use Rattle.model.specs.Format.{byte, u16, u64, Token, leaf, notToken, andToken, orToken, tokenRecord}
 
 -- b is the truth of the token, if it is a leaf; `sel` reads the expressions
@@ -26,10 +25,6 @@ ToldBy sel s truth k n = (i : ℕ) → i < n → LeafTold sel (tokenRecord s (k 
 -- for the product cs of the table t
 unfoldable pub LeavesTold : Table → List CoverBin → List ℕ → List ℕ → ℕ → ℕ → Type 0
 LeavesTold t cs s truth k n = ToldBy (λ e. selects t e cs) s truth k n
-
--- the same by the bins' ranges
-unfoldable pub LeavesToldIn : Table → List CoverBin → List ℕ → List ℕ → ℕ → ℕ → Type 0
-LeavesToldIn t cs s truth k n = ToldBy (λ e. selectsIn t e cs) s truth k n
 
 -- The truth of a leaf by its fields, 0 for an operator. `meet` says whether a cover bin has a value from lo to hi.
 abbrev pub leafBit : (CoverBin → ℕ → ℕ → Bool) → List CoverBin → ℕ → ℕ → ℕ → ℕ → ℕ → ℕ

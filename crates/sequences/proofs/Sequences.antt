@@ -8,17 +8,17 @@ use Prim.Native.Nat.{ℕ, _+_, _≤_, _<_}
 use native.Mathlib.Omega.{arith}
 use lib.Bits.{bitOr, or-zero-r}
 use lib.ListN.{length, take, drop, set, length-append, length-drop, length-map}
-use lib.Seq.{drop-drop, take-at, drop-at, take-append-le, drop-append-le, length-take-le}
+use lib.Seq.{drop-drop, take-at, take-append-le, drop-append-le, length-take-le}
 use Rattle.model.specs.Lists.{sumOf}
 use Rattle.model.specs.Table.{Step, TransitionBin, Table}
 use Rattle.model.specs.Sampling.{Reading, skipped, unknown, known, isSkipped, inStep, reading, runLength, nextSteps, nextRun, matchedLengths}
-use Rattle.model.specs.Register.{Sequence, binSequences, nextRuns, binLengths, allLengths}
+use Rattle.model.specs.Register.{Sequence, nextRuns, binLengths, allLengths}
 use Rattle.model.proofs.RunBits.{or-assoc}
 use Rattle.model.proofs.Lists.{length-part}
 use Rattle.sequences.specs.declared.Steps.{Steps}
 use Rattle.sequences.specs.Described.{Shaped, Describes}
 use Rattle.arrays.specs.Put.{put}
-use Rattle.arrays.proofs.PutLaws.{put-nil, put-cons, put-next, drop-put, put-zero, put-same}
+use Rattle.arrays.proofs.PutLaws.{put-nil, put-cons, put-zero, put-same}
 use Rattle.sequences.proofs.NextSteps.{length-nextSteps}
 
 -- ---- arrays that were filled
@@ -81,22 +81,6 @@ abbrev pub total : List Sequence → ℕ
 total qs = sumOf (λ q. runLength (q .steps)) qs
 
 module _ (t : Table) (s : List ℕ) where
-  -- one sequence is written, and those that are left follow it
-  pub runs-turn : (q : Sequence) (qs : List Sequence) (a : ℕ) (w w′ : List ℕ) → a + runLength (q .steps) ≤ length w
-      → w′ ≡ put a (nextRun (q .steps) (take (runLength (q .steps)) (drop a w)) (reading t s (q .point))) w
-      → put (a + runLength (q .steps)) (nextRuns t s qs (drop (a + runLength (q .steps)) w′)) w′ ≡ put a (nextRuns t s (q ∷ qs) (drop a w)) w
-  unfolding nextRuns
-  runs-turn q qs a w w′ h e =
-      let n = runLength (q .steps) in
-      let xs = nextRun (q .steps) (take n (drop a w)) (reading t s (q .point)) in
-      let l : length xs ≡ n = length-nextRun (q .steps) (take n (drop a w)) (reading t s (q .point)) (length-part w a n h) in
-      let d : drop (a + n) w′ ≡ drop n (drop a w) = ap (drop (a + n)) e ∙ drop-put a n xs w l h ∙ sym (drop-drop n a w) in
-      rw (d, e) (put-next a n xs (nextRuns t s qs (drop n (drop a w))) w l h)
-
-  pub runs-end : (a : ℕ) (runs w : List ℕ) → put a (nextRuns t s [] runs) w ≡ w
-  unfolding nextRuns
-  runs-end a runs w = put-nil a w
-
   pub length-nextRuns : (qs : List Sequence) (runs : List ℕ) → total qs ≤ length runs → length (nextRuns t s qs runs) ≡ total qs
   unfolding nextRuns sumOf
   length-nextRuns [] runs h = refl
@@ -172,30 +156,3 @@ allLengths-front (b ∷ bs) xs ys h =
     ap₂ _∷_
     (binLengths-front (b .sequences) xs ys h₁)
     (ap (allLengths bs) (drop-append-le n xs ys h₁) ∙ allLengths-front bs (drop n xs) ys k)
-
--- ---- what matches after the sample, with nothing written yet
-
-module _ (t : Table) (s : List ℕ) where
-  pub lengths-next : (p : ℕ) (ss : List Step) (sss : List (List Step)) (qs : List Sequence) (runs : List ℕ) → runLength ss ≤ length runs
-      → binLengths (ss ∷ sss) (nextRuns t s (record { point = p; steps = ss } ∷ qs) runs)
-      ≡ bitOr (matchedLengths ss (nextRun ss (take (runLength ss) runs) (reading t s p))) (binLengths sss (nextRuns t s qs (drop (runLength ss) runs)))
-  unfolding binLengths nextRuns
-  lengths-next p ss sss qs runs h =
-      let n = runLength ss in
-      let xs = nextRun ss (take n runs) (reading t s p) in
-      let rest = nextRuns t s qs (drop n runs) in
-      let l : length xs ≡ n = length-nextRun ss (take n runs) (reading t s p) (length-take-le n runs h) in
-      ap₂ (λ (x y : List ℕ). bitOr (matchedLengths ss x) (binLengths sss y)) (take-at xs rest n l) (drop-at xs rest n l)
-
-  pub bins-next : (b : TransitionBin) (bs : List TransitionBin) (qs : List Sequence) (runs : List ℕ) → sumOf runLength (b .sequences) ≤ length runs
-      → allLengths (b ∷ bs) (nextRuns t s (binSequences b ++ qs) runs)
-      ≡ binLengths (b .sequences) (nextRuns t s (binSequences b) runs) ∷ allLengths bs (nextRuns t s qs (drop (sumOf runLength (b .sequences)) runs))
-  unfolding allLengths
-  bins-next b bs qs runs h =
-      let n = sumOf runLength (b .sequences) in
-      let e : total (binSequences b) ≡ n = total-bin (b .point) (b .sequences) in
-      let xs = nextRuns t s (binSequences b) runs in
-      let rest = nextRuns t s qs (drop n runs) in
-      let l : length xs ≡ n = length-nextRuns t s (binSequences b) runs (omega arith) ∙ e in
-      ap (allLengths (b ∷ bs)) (nextRuns-append t s (binSequences b) qs runs ∙ ap (λ (k : ℕ). xs ++ nextRuns t s qs (drop k runs)) e)
-      ∙ ap₂ (λ (x : ℕ) (y : List ℕ). x ∷ allLengths bs y) (binLengths-front (b .sequences) xs rest (omega arith)) (drop-at xs rest n l)

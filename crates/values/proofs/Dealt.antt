@@ -1,16 +1,16 @@
 -- Which of n bins gets a value that stands at a known place in the listed order: what the model's portions say, by one division.
 -- Assumes nothing.
-use mathlib.Core.Path.{_≡_, refl, sym, ap, ap₂, _∙_}
+use mathlib.Core.Path.{_≡_, refl, sym, ap₂, _∙_}
 use mathlib.Core.Bool.{Bool, true, false, _&&_, _||_, cond, or-false}
 use mathlib.Core.List.{List, [], _∷_, _++_}
-use Prim.Native.Nat.{ℕ, zero, suc, _+_, _-_, _*_, _/_, _≤_, _<_, min, max}
+use Prim.Native.Nat.{ℕ, suc, _+_, _-_, _*_, _/_, _≤_, _<_, min, max}
 use native.Mathlib.Omega.{arith}
 use native.Mathlib.Nat.{le-div-iff-mul-le, div-lt-iff-lt-mul}
 use lib.Dec.{leb, ltb, eqb}
-use borrow.Author.Tests.{leb-true, ltb-true, ltb-false, le-leb, lt-ltb, eqb-true, eqb-false, eq-eqb, ne-eqb}
+use borrow.Author.Tests.{leb-true, ltb-true, ltb-false, le-leb, lt-ltb, eqb-true, eq-eqb}
 use Rattle.model.specs.Lists.{sumOf, oneOf}
 use Rattle.model.specs.Table.{Range, span, pattern}
-use Rattle.model.specs.Values.{inRange, inRanges}
+use Rattle.model.specs.Values.{inRanges}
 use Rattle.model.specs.Ranges.{size, sizes, cutRange, cutRanges, portionRanges}
 use Rattle.model.proofs.Booleans.{false-true, and-left, and-right, bool-eq}
 use Rattle.model.proofs.Slices.{inRanges-append}

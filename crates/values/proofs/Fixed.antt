@@ -12,14 +12,9 @@ use borrow.Author.Tests.{eq-eqb, ne-eqb, le-leb}
 use Rattle.model.specs.Lists.{upFrom, oneOf, asBit, sumOf}
 use Rattle.model.specs.Table.{Range, span}
 use Rattle.model.specs.Ranges.{size, sizes}
+use Rattle.model.proofs.Lists.{length-row, map-same}
 use Rattle.arrays.specs.Put.{put}
 use Rattle.values.specs.Flags.{inSpan, placeIn, binsOf, setAll, fixedFlags, autoFlags}
-use Rattle.values.proofs.Laws.{length-row}
-
-pub map-from : {A : Type 0} (f g : ℕ → A) (i n : ℕ) → ((j : ℕ) → i ≤ j → j < i + n → f j ≡ g j) → map f (upFrom i n) ≡ map g (upFrom i n)
-unfolding upFrom
-map-from f g i zero h = refl
-map-from f g i (suc n) h = ap₂ _∷_ (h i (omega arith) (omega arith)) (map-from f g (suc i) n λ j p q. h j (omega arith) (omega arith))
 
 zeros : (i n : ℕ) → replicate n 0 ≡ map (λ k. asBit false) (upFrom i n)
 unfolding upFrom
@@ -33,10 +28,10 @@ unfolding upFrom
 set-map f i zero k = refl
 set-map f i (suc n) zero =
     ap₂ _∷_ (sym (ap (λ (b : Bool). cond b 1 (f i)) (eq-eqb i (i + 0) (omega arith))))
-    (map-from f (λ j. cond (eqb j (i + 0)) 1 (f j)) (suc i) n λ j p q. sym (ap (λ (b : Bool). cond b 1 (f j)) (ne-eqb j (i + 0) (λ e. omega arith))))
+    (map-same f (λ j. cond (eqb j (i + 0)) 1 (f j)) (suc i) n λ j p q. sym (ap (λ (b : Bool). cond b 1 (f j)) (ne-eqb j (i + 0) (λ e. omega arith))))
 set-map f i (suc n) (suc k) =
     ap₂ _∷_ (sym (ap (λ (b : Bool). cond b 1 (f i)) (ne-eqb i (i + suc k) (λ e. omega arith))))
-    (set-map f (suc i) n k ∙ map-from (λ j. cond (eqb j (suc i + k)) 1 (f j)) (λ j. cond (eqb j (i + suc k)) 1 (f j)) (suc i) n
+    (set-map f (suc i) n k ∙ map-same (λ j. cond (eqb j (suc i + k)) 1 (f j)) (λ j. cond (eqb j (i + suc k)) 1 (f j)) (suc i) n
     λ j p q. ap (λ (m : ℕ). cond (eqb j m) 1 (f j)) (let z : suc i + k ≡ i + suc k = omega arith in z))
 
 join : (a b : Bool) (x : ℕ) → cond b 1 (cond a 1 x) ≡ cond (a || b) 1 x
@@ -50,7 +45,7 @@ all-map n [] f = refl
 all-map n (k ∷ ks) f =
     ap (setAll 0 ks) (set-map f 0 n (0 + k))
     ∙ all-map n ks (λ j. cond (eqb j (0 + (0 + k))) 1 (f j))
-    ∙ map-from (λ j. cond (oneOf j ks) 1 (cond (eqb j (0 + (0 + k))) 1 (f j))) (λ j. cond (eqb j k || oneOf j ks) 1 (f j)) 0 n
+    ∙ map-same (λ j. cond (oneOf j ks) 1 (cond (eqb j (0 + (0 + k))) 1 (f j))) (λ j. cond (eqb j k || oneOf j ks) 1 (f j)) 0 n
     (λ j p q. join (eqb j (0 + (0 + k))) (oneOf j ks) (f j) ∙ ap (λ (m : ℕ). cond (eqb j m || oneOf j ks) 1 (f j)) (let z : 0 + (0 + k) ≡ k = omega arith in z))
 
 -- ---- a store in a part that was written
@@ -113,7 +108,7 @@ fixed-live live cur each v n rs l l₁ l₂ alive e some fit e₁ e₂ =
     ∙ ap (setAll cur ks) (e₁ ∙ ap (λ (z : List ℕ). put cur z l) (zeros 0 n))
     ∙ all-put cur (max 1 (sizes rs / n)) (n - 1) v 0 rs zs l (omega arith) (omega arith)
     ∙ ap (λ (z : List ℕ). put cur z l)
-    (all-map n ks (λ k. asBit false) ∙ map-from (λ j. cond (oneOf j ks) 1 (asBit false)) (λ j. asBit (live && oneOf j ks)) 0 n
+    (all-map n ks (λ k. asBit false) ∙ map-same (λ j. cond (oneOf j ks) 1 (asBit false)) (λ j. asBit (live && oneOf j ks)) 0 n
     (λ j p q. as-bit (oneOf j ks) ∙ ap (λ (b : Bool). asBit (b && oneOf j ks)) (sym alive)))
   where
     ks : List ℕ
@@ -123,7 +118,7 @@ pub fixed-dead : (live : Bool) (cur v n : ℕ) (rs : List Range) (l l₁ : List 
 unfolding fixedFlags
 fixed-dead live cur v n rs l l₁ dead e =
     e ∙ ap (λ (z : List ℕ). put cur z l)
-    (zeros 0 n ∙ map-from (λ j. asBit false) (λ j. asBit (live && oneOf j ks)) 0 n (λ j p q. ap (λ (b : Bool). asBit (b && oneOf j ks)) (sym dead)))
+    (zeros 0 n ∙ map-same (λ j. asBit false) (λ j. asBit (live && oneOf j ks)) 0 n (λ j p q. ap (λ (b : Bool). asBit (b && oneOf j ks)) (sym dead)))
   where
     ks : List ℕ
     ks = binsOf (max 1 (sizes rs / n)) (n - 1) v 0 rs

@@ -16,8 +16,7 @@ use Rattle.model.specs.Ranges.{noValue, nextIn, ascending, sizes, rangesOf}
 use Rattle.model.specs.Counters.{listed, auto, Counter, valueBin, pointAt, valueBinAt, autoCount, excludedValue, listedValue, distributed, holds, hasAuto, binCounters, valueCounters, autoCounters}
 use Rattle.model.specs.Sampling.{Reading, known, guardTrue, reading, isIn, Stretches, coverHit, hits}
 use Rattle.model.proofs.Readers.{All}
-use Rattle.model.proofs.Runs.{any-cong}
-pub use Rattle.model.proofs.AccessTransitions.{map-twice as map-map}
+use Rattle.model.proofs.Lists.{any-cong, map-map, map-same, length-row}
 use Rattle.model.proofs.WellFormed.{GoodPoint, GoodBin, WellFormed}
 use Rattle.model.proofs.Exact.{Divisible, first-exact, portion-exact, auto-exact}
 use Rattle.model.proofs.TableExact.{point-at, divisible}
@@ -26,8 +25,6 @@ use Rattle.arrays.specs.Flat.{hitFlags}
 use Rattle.ranges.specs.Taken.{holding, takenBy}
 use Rattle.ranges.proofs.MemberLaws.{in-any}
 use Rattle.ranges.proofs.TakenLaws.{any-taken}
-pub use Rattle.values.proofs.Laws.{length-row}
-use Rattle.values.proofs.Fixed.{map-from}
 use Rattle.values.proofs.Dealt.{portion-bins}
 
 pub map-append : {A B : Type 0} (f : A → B) (xs ys : List A) → map f (xs ++ ys) ≡ map f xs ++ map f ys
@@ -88,7 +85,7 @@ cover-exact p good v live perValue rs h few =
     vs = distinctValues p rs
 cover-exact p good v live (fixed n) rs h few =
     unfold fixedFlags in
-    (map-from (λ k. asBit (live && oneOf v (portion n k (listedValues p rs)))) (λ k. asBit (live && oneOf k (binsOf (max 1 (sizes rs / n)) (n - 1) v 0 rs))) 0 n
+    (map-same (λ k. asBit (live && oneOf v (portion n k (listedValues p rs)))) (λ k. asBit (live && oneOf k (binsOf (max 1 (sizes rs / n)) (n - 1) v 0 rs))) 0 n
     (λ k a b. ap (λ (x : Bool). asBit (live && x)) (portion-exact p good v rs h n k ∙ portion-bins n k v rs (omega arith))))
 
 -- the flags of the auto bins
@@ -96,7 +93,7 @@ pub auto-flags : (p : Point) (good : GoodPoint p) (v n : ℕ) (live : Bool)
     → map (λ k. asBit (live && oneOf v (portion n k (values p)))) (upFrom 0 n) ≡ autoFlags live v n (lowest p) (highest p)
 unfolding fixedFlags
 auto-flags p good v n live =
-    map-from (λ k. asBit (live && oneOf v (portion n k (values p)))) (λ k. asBit (live && oneOf k (binsOf (max 1 (sizes rs / n)) (n - 1) v 0 rs))) 0 n
+    map-same (λ k. asBit (live && oneOf v (portion n k (values p)))) (λ k. asBit (live && oneOf k (binsOf (max 1 (sizes rs / n)) (n - 1) v 0 rs))) 0 n
     (λ k a b. ap (λ (x : Bool). asBit (live && x)) (auto-exact p good v n k ∙ portion-bins n k v rs (omega arith)))
   where
     rs : List Range

@@ -2,7 +2,7 @@
 -- Assumes nothing.
 use mathlib.Core.Path.{_≡_, refl, sym, ap, ap₂, _∙_}
 use mathlib.Core.Bool.{Bool, true, false, not, _&&_, _||_, cond}
-use mathlib.Core.List.{List, [], _∷_, _++_, map}
+use mathlib.Core.List.{List, [], _∷_, _++_}
 use Prim.Native.Nat.{ℕ, zero, suc, _+_, _-_, _*_, _/_, _%_, _^_, _≤_, _<_, min}
 use native.Mathlib.Omega.{arith}
 use lib.Dec.{leb, eqb}
@@ -10,7 +10,7 @@ use borrow.Author.Needs.{needs}
 use lib.ListN.{length, set, length-append}
 use borrow.Author.Tests.{eq-eqb, ne-eqb, leb-true, ltb-true}
 use Rattle.model.specs.Lists.{upFrom, all, asBit, sumOf, bit}
-use Rattle.model.specs.Table.{Range, span, pattern, Form, fixed}
+use Rattle.model.specs.Table.{Range, span, pattern, Form}
 use Rattle.model.specs.Values.{fieldValue, inRange, inRanges}
 use Rattle.model.specs.Sampling.{guardWord, guardTrue}
 use Rattle.model.specs.Format.{byte, u16, u64, rangeRecord, kindFrom, formFrom, guardFrom}
@@ -18,10 +18,10 @@ use Rattle.model.specs.Ranges.{size, sizes}
 use Rattle.model.proofs.Booleans.{false-true, and-left, and-right}
 use Rattle.model.specs.Raw.{rows, rangesAt, binAt, binsAt}
 use Rattle.values.specs.Flags.{inSpan, placeIn, binsOf, setAll, markOne, fixedFlags, valueFlags, smallRange, coverFlags, Hit, hit, flagsBy, binFlags, flagsIn, binFits, fits}
-pub use Rattle.words.proofs.Laws.{none-left, one-left}
-pub use Rattle.ranges.proofs.TakenLaws.{excludes-kind}
+use Rattle.model.proofs.Lists.{none-left, one-left, length-row}
+use Rattle.model.proofs.Fields.{fixed-form}
 use Rattle.arrays.specs.Put.{put}
-use Rattle.arrays.proofs.PutLaws.{put-nil, put-put}
+use Rattle.arrays.proofs.PutLaws.{put-put}
 
 -- ---- fields
 
@@ -166,16 +166,6 @@ same-place s at v before each x h e = ap (λ (y : ℕ). (before + y) / each) (ap
 
 -- ---- a cover bin by its form
 
-pub fixed-form : (form number : ℕ) → (form ≡ 0 → ⊥) → (form ≡ 1 → ⊥) → formFrom form number ≡ fixed number
-fixed-form zero number z o = absurd (z refl)
-fixed-form (suc zero) number z o = absurd (o refl)
-fixed-form (suc (suc n)) number z o = refl
-
-pub length-row : {A : Type 0} (f : ℕ → A) (i n : ℕ) → length (map f (upFrom i n)) ≡ n
-unfolding upFrom
-length-row f i zero = refl
-length-row f i (suc n) = ap suc (length-row f (suc i) n)
-
 pub length-fixed : (live : Bool) (v n : ℕ) (rs : List Range) → length (fixedFlags live v n rs) ≡ n
 unfolding fixedFlags
 length-fixed live v n rs = length-row _ 0 n
@@ -204,13 +194,6 @@ module _ (low v : ℕ) (live : Bool) (form number : ℕ) (rs : List Range) where
     pub cover-none : number ≡ 0 → coverFlags low v live (formFrom form number) rs ≡ []
     unfolding fixedFlags upFrom
     cover-none e = cover-fixed ∙ ap (λ (n : ℕ). fixedFlags live v n rs) e
-
-pub as-written : (cur e n : ℕ) (xs ys l l′ : List ℕ) → ys ≡ xs → length xs ≡ n → e ≡ cur + n → l′ ≡ put cur xs l → (e ≡ cur + length ys) × (l′ ≡ put cur ys l)
-as-written cur e n xs ys l l′ q k p w = (p ∙ ap (cur +_) (sym k ∙ ap length (sym q)), w ∙ ap (λ (z : List ℕ). put cur z l) (sym q))
-
--- nothing was written
-pub unwritten : (cur : ℕ) (ys l : List ℕ) → ys ≡ [] → (cur ≡ cur + length ys) × (l ≡ put cur ys l)
-unwritten cur ys l q = (sym (ap (λ (z : List ℕ). cur + length z) q ∙ omega arith), sym (ap (λ (z : List ℕ). put cur z l) q ∙ put-nil cur l))
 
 -- ---- a bin by its kind
 

@@ -14,7 +14,7 @@ use Rattle.model.specs.Table.{ValueBin}
 use Rattle.model.specs.Values.{inRange, inRanges}
 use Rattle.model.specs.Format.{byte, u16, rangeRecord}
 use Rattle.model.specs.Raw.{rows, rangesAt, binAt, binsAt}
-use Rattle.ranges.proofs.Searches.{bins-length}
+use Rattle.model.proofs.RawValues.{length-bins}
 use Rattle.values.specs.Flags.{lists, listedIn, firstListing}
 use Rattle.values.proofs.Laws.{bins-step, bins-end, ranges-start, ranges-step, row-end}
 
@@ -69,5 +69,5 @@ first-below p v b (x ∷ bs) = go (lists p v x) (first-below p v (suc b) bs)
 pub listed-first : (s : List ℕ) (a r n p v x : ℕ) → x ≡ firstListing p v 0 (binsAt s a r n) → ltb x n ≡ listedIn p v (binsAt s a r n)
 unfolding listedIn
 listed-first s a r n p v x e =
-    ap₂ ltb e (sym (bins-length s a r n) ∙ (let z : length (binsAt s a r n) ≡ 0 + length (binsAt s a r n) = omega arith in z))
+    ap₂ ltb e (sym (length-bins s a r n) ∙ (let z : length (binsAt s a r n) ≡ 0 + length (binsAt s a r n) = omega arith in z))
     ∙ first-below p v 0 (binsAt s a r n)

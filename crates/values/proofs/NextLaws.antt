@@ -11,10 +11,10 @@ use borrow.Author.Tests.{lt-ltb, le-ltb}
 use Rattle.model.specs.Lists.{asBit}
 use Rattle.model.specs.Table.{Range}
 use Rattle.model.specs.Ranges.{noValue, nextIn}
+use Rattle.model.proofs.Lists.{none-left, one-left}
 use Rattle.values.specs.Flags.{valueFlags}
 use Rattle.arrays.specs.Put.{put}
 use Rattle.arrays.proofs.PutLaws.{put-nil, put-put}
-use Rattle.values.proofs.Laws.{none-left, one-left}
 
 -- ---- the flags of the values
 

@@ -16,10 +16,11 @@ use Rattle.ranges.specs.Types.{powerOf, lowestOf}
 use Rattle.ranges.proofs.RangeLaws.{low-record}
 use Rattle.arrays.specs.Put.{put}
 use Rattle.model.specs.Raw.{binsAt}
+use Rattle.model.proofs.Lists.{none-left, one-left}
 use Rattle.values.specs.Flags.{hit, flagsIn, excludedIn, listedIn, autoFlags}
 use Rattle.arrays.proofs.PutLaws.{put-put}
 use Rattle.values.specs.Points.{isOwn, someOwn, hasAutoAt, autoPart, pointFlags}
-use Rattle.values.proofs.Laws.{none-left, one-left, length-fixed}
+use Rattle.values.proofs.Laws.{length-fixed}
 
 module _ (s : List ℕ) (p : ℕ) (defaults : Bool) (size n at i : ℕ) (x : Bool) (inv : x ≡ someOwn s p defaults size at (n - i)) where
   own-step : i < n → x ≡ (isOwn s p defaults at || someOwn s p defaults size (at + size) (n - (i + 1)))

@@ -19,16 +19,15 @@ use Rattle.model.proofs.Readers.{All}
 use Rattle.model.proofs.Sections.{acceptance}
 use Rattle.model.proofs.Access.{bins-access}
 use Rattle.model.proofs.WellFormed.{GoodPoint, Legal, GoodBin, WellFormed, well-formed}
-use Rattle.model.proofs.TableExact.{point-at}
+use Rattle.model.proofs.TableExact.{point-at, pow-half}
 use Rattle.model.proofs.RawLaws.{length-rows}
 use Rattle.model.proofs.RawExact.{next-place, raw-exact, sections-whole}
+use Rattle.model.proofs.RawValues.{length-bins}
 use Rattle.ranges.specs.Types.{Wide}
-use Rattle.ranges.proofs.Searches.{bins-length}
 use Rattle.values.specs.Flags.{smallRange, binFits, fits}
 use Rattle.values.specs.Points.{Near}
-use Rattle.values.proofs.ValueLaws.{pow-half}
 use Rattle.values.proofs.PointExact.{point-raw}
-pub use Rattle.values.proofs.PointExact.{bins-raw}
+use Rattle.values.proofs.PointExact.{bins-raw}
 
 -- ---- ranges
 
@@ -85,7 +84,7 @@ module _ (s : List ℕ) (t : Table) (e : decode s ≡ decoded t) (p : ℕ) (insi
         point-near = omega (arith, many);
         bins-near = omega arith;
         ranges-near = omega arith;
-        few-bins = omega (arith, bins-access s t (length s) (a .layout) .0 .high, ap length (bins-raw s t e p inside), bins-length s (recordsPlace s 1) (recordsPlace s 2) (recordCount s 1));
+        few-bins = omega (arith, bins-access s t (length s) (a .layout) .0 .high, ap length (bins-raw s t e p inside), length-bins s (recordsPlace s 1) (recordsPlace s 2) (recordCount s 1));
         transitions-near = omega arith;
         few-transitions = omega arith;
       }

@@ -1,31 +1,24 @@
 -- Values as integers and as numbers.
 -- Assumes nothing.
-use mathlib.Core.Path.{_≡_, refl, ap, sym, _∙_}
-use mathlib.Core.Bool.{Bool, true, false, cond}
+use mathlib.Core.Path.{_≡_, ap, _∙_}
+use mathlib.Core.Bool.{Bool, true, false}
 use mathlib.Core.Logic.{⊎-elim, _⊎_, inl, inr}
 use Prim.Native.Nat.{ℕ, zero, suc, _+_, _-_, _*_, _^_, _≤_, _<_}
-use native.Mathlib.Nat.{pow-succ'}
 use native.Mathlib.Decide.{decLe}
 use native.Mathlib.Omega.{arith}
-use lib.Dec.{leb, ltb}
 use lib.IntN.{ℤ, pos, negsuc, _-ℤ_, _+ℤ_}
 use lib.Pow.{pow-mono}
 use mir.Syntax.{w64}
 use mir.Val.{SFits}
 use borrow.Author.Tests.{lt-ltb, le-ltb, le-leb, lt-leb}
 use Rattle.model.specs.Values.{readValue}
+use Rattle.model.proofs.TableExact.{pow-half}
 use Rattle.ranges.specs.Types.{typed}
 use Rattle.values.specs.Value.{valueOf, key, InKey}
 
 pub sub-neg : (a b : ℕ) → a < b → pos a -ℤ pos b ≡ negsuc (b - suc a)
 sub-neg a zero h = absurd (omega arith)
 sub-neg a (suc n) h = rw (lt-ltb a (suc n) h)
-
--- 2 ^ w is twice 2 ^ (w - 1)
-pub pow-half : (w : ℕ) → 1 ≤ w → 2 ^ w ≡ 2 * 2 ^ (w - 1)
-pow-half w h =
-    let e : w ≡ suc (w - 1) = omega arith in
-    ap (λ (k : ℕ). 2 ^ k) e ∙ pow-succ' 2 (w - 1)
 
 le-or-lt : (x y : ℕ) → (x ≤ y) ⊎ (y < x)
 le-or-lt x y = elim (decLe x y) [ yes h ↦ inl h | no h ↦ inr (omega arith) ]

@@ -14,16 +14,12 @@ use borrow.Author.Tests.{leb-true}
 use Rattle.model.specs.Format.{FaultClass, tooLong, cut, count, value, unused, field, disagreement, leftover, limits, Read, refused, got, Reader, Test, tested, andThen, done, times, each, readRecord}
 use Rattle.model.specs.Lists.{sumOf}
 use Rattle.model.specs.Raw.{rows}
-pub use Rattle.model.proofs.Lists.{none-left, one-left}
+use Rattle.model.proofs.Lists.{none-left, one-left}
 use Rattle.words.specs.Sums.{sumFrom}
 use Rattle.words.specs.Verdicts.{verdict, codeOf, verdictOf, verdictIn, unlessOk}
 use Rattle.words.specs.declared.verdicts.Verdict.{Verdict}
 
 -- ---- tests and records
-
-pub verdict-cond : {A : Type 0} (b : Bool) (x y : Read A) → verdictOf (cond b x y) ≡ cond b (verdictOf x) (verdictOf y)
-verdict-cond true x y = refl
-verdict-cond false x y = refl
 
 pub verdict-tested : {A : Type 0} (tests : List Test) (r : Read A) → verdictOf (tested tests r) ≡ verdictIn tests (verdictOf r)
 unfolding tested verdictOf verdictIn

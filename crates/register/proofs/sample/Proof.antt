@@ -1,4 +1,4 @@
-use mathlib.Core.Path.{_≡_, refl, sym, ap, _∙_}
+use mathlib.Core.Path.{_≡_, sym, ap, _∙_}
 use Rattle.model.specs.Register.{Effect, accept, sample}
 use Rattle.register.proofs.CallLaws.{table-refuses, table-known, tests-refuse, tests-accept}
 use Rattle.register.proofs.FigureLaws.{known-accepted}

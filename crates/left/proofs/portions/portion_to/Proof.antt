@@ -1,4 +1,3 @@
-use native.Mathlib.Omega.{arith}
 use mathlib.Core.Path.{refl}
 use Rattle.left.proofs.PortionLaws.{to-last, to-inner}
 use borrow.Author.Needs.{needs}

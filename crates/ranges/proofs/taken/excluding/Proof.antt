@@ -1,4 +1,4 @@
-use Rattle.ranges.proofs.TakenLaws.{excludes-kind}
+use Rattle.model.proofs.Fields.{excludes-kind}
 use Rattle.ranges.proofs.taken.excluding.Statement.{statement}
 use Rattle.ranges.proofs.taken.excluding.Tie as tie
 

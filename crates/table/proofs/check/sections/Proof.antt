@@ -1,4 +1,3 @@
-use Prim.Native.Nat.{ℕ}
 use borrow.Author.Needs.{needs}
 use Rattle.table.proofs.CheckLaws.{points-stop, points-in, wide, bins-stop, bins-in, known, bins-on}
 use Rattle.table.proofs.check.sections.Statement.{statement}

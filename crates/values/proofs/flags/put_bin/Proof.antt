@@ -1,7 +1,8 @@
 use mathlib.Core.Path.{_≡_, refl, ap}
 use native.Mathlib.Omega.{arith}
 use lib.ListN.{length}
-use Rattle.values.proofs.Laws.{as-written, unwritten, other-point, ignore-bin, cover-bin, plain-bin}
+use Rattle.arrays.proofs.Written.{as-written, unwritten}
+use Rattle.values.proofs.Laws.{other-point, ignore-bin, cover-bin, plain-bin}
 use borrow.Author.Needs.{needs}
 use Rattle.values.proofs.flags.put_bin.Statement.{statement}
 use Rattle.values.proofs.flags.put_bin.Tie as tie

@@ -2,7 +2,8 @@ use mathlib.Core.Path.{_≡_, refl, ap}
 use native.Mathlib.Omega.{arith}
 use lib.ListN.{length}
 use Rattle.model.specs.Raw.{rangesAt}
-use Rattle.values.proofs.Laws.{length-fixed, cover-one, cover-single, cover-values, cover-fixed, cover-number, cover-none, as-written, unwritten}
+use Rattle.arrays.proofs.Written.{as-written, unwritten}
+use Rattle.values.proofs.Laws.{length-fixed, cover-one, cover-single, cover-values, cover-fixed, cover-number, cover-none}
 use borrow.Author.Needs.{needs}
 use Rattle.values.proofs.flags.put_cover.Statement.{statement}
 use Rattle.values.proofs.flags.put_cover.Tie as tie

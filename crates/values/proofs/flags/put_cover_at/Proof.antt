@@ -1,7 +1,8 @@
 use mathlib.Core.Path.{_≡_, refl, ap}
 use native.Mathlib.Omega.{arith}
 use lib.ListN.{length}
-use Rattle.values.proofs.Laws.{cover-at, cover-needs, as-written}
+use Rattle.arrays.proofs.Written.{as-written}
+use Rattle.values.proofs.Laws.{cover-at, cover-needs}
 use borrow.Author.Needs.{needs}
 use Rattle.values.proofs.flags.put_cover_at.Statement.{statement}
 use Rattle.values.proofs.flags.put_cover_at.Tie as tie

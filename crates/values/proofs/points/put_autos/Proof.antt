@@ -1,9 +1,10 @@
-use mathlib.Core.Path.{_≡_, sym, _∙_}
-use Prim.Native.Nat.{ℕ, _+_, _-_, _≤_}
+use mathlib.Core.Path.{_≡_, _∙_}
+use Prim.Native.Nat.{_+_, _-_, _≤_}
 use native.Mathlib.Omega.{arith}
 use Rattle.model.specs.Format.{pointRecord}
-use Rattle.values.proofs.Laws.{not-true, not-false, length-fixed, as-written, unwritten}
-use Rattle.values.proofs.PointLaws.{low-is, high-is, number-is, auto-part, auto-length, no-auto}
+use Rattle.arrays.proofs.Written.{as-written, unwritten}
+use Rattle.values.proofs.Laws.{not-true, not-false, length-fixed}
+use Rattle.values.proofs.PointLaws.{low-is, high-is, auto-part, auto-length, no-auto}
 use borrow.Author.Needs.{needs}
 use Rattle.values.proofs.points.put_autos.Statement.{statement}
 use Rattle.values.proofs.points.put_autos.Tie as tie

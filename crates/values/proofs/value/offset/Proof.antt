@@ -1,18 +1,13 @@
-use mathlib.Core.Path.{_≡_, refl, ap, sym, _∙_}
-use mathlib.Core.Bool.{Bool, true, false, _&&_}
-use mathlib.Core.Logic.{⊎-elim}
-use Prim.Native.Nat.{ℕ, suc, _+_, _-_, _*_, _^_, _≤_, _<_}
+use mathlib.Core.Path.{_≡_, ap, _∙_}
+use mathlib.Core.Bool.{_&&_}
+use Prim.Native.Nat.{_+_, _-_, _*_, _^_, _≤_, _<_}
 use native.Mathlib.Omega.{arith}
-use lib.IntN.{ℤ, pos, negsuc, _-ℤ_, _+ℤ_, natAbs}
-use lib.Signed.{leZ, nonNeg}
-use lib.Pow.{pow-lt, pow-mono}
-use lib.Dec.{T}
+use lib.IntN.{ℤ, pos, _-ℤ_, _+ℤ_, natAbs}
 use mir.Syntax.{w64}
-use mir.Val.{SFits, Fits, toZ, ofZ}
-use mir.Facts.{toZ-ofZ, toZ-pos}
-use borrow.Author.Tests.{lt-ltb, le-ltb}
-use Rattle.values.specs.Value.{valueOf, key, InKey}
-use Rattle.values.proofs.ValueLaws.{sub-neg, keyed, key-lt}
+use mir.Val.{toZ, ofZ}
+use mir.Facts.{toZ-ofZ}
+use Rattle.values.specs.Value.{key}
+use Rattle.values.proofs.ValueLaws.{keyed, key-lt}
 use Rattle.values.proofs.value.offset.Statement.{statement}
 use Rattle.values.proofs.value.offset.Tie as tie
 

@@ -1,19 +1,17 @@
-use mathlib.Core.Path.{_≡_, refl, ap, sym, _∙_}
-use mathlib.Core.Bool.{Bool, true, false, _&&_}
+use mathlib.Core.Path.{_≡_, sym, _∙_}
+use mathlib.Core.Bool.{_&&_}
 use mathlib.Core.Logic.{⊎-elim}
-use Prim.Native.Nat.{ℕ, suc, _+_, _-_, _*_, _^_, _≤_, _<_}
+use Prim.Native.Nat.{suc, _+_, _-_, _*_, _^_, _≤_, _<_}
 use native.Mathlib.Omega.{arith}
-use lib.IntN.{ℤ, pos, negsuc, _-ℤ_, _+ℤ_, natAbs}
-use lib.Signed.{leZ, nonNeg}
-use lib.Pow.{pow-lt, pow-mono}
-use lib.Dec.{T}
+use lib.IntN.{negsuc, _-ℤ_, _+ℤ_}
+use lib.Pow.{pow-mono}
 use mir.Syntax.{w64}
-use mir.Val.{SFits, Fits, toZ, ofZ}
+use mir.Val.{toZ}
 use mir.Facts.{toZ-ofZ, toZ-pos}
 use borrow.Author.Tests.{lt-ltb, le-ltb}
-use Rattle.values.specs.Value.{valueOf, key, InKey}
+use Rattle.model.proofs.TableExact.{pow-half}
 use Rattle.ranges.specs.Types.{powerOf}
-use Rattle.values.proofs.ValueLaws.{sub-neg, pow-half}
+use Rattle.values.proofs.ValueLaws.{sub-neg}
 use borrow.Author.Needs.{needs}
 use Rattle.values.proofs.value.value.Statement.{statement}
 use Rattle.values.proofs.value.value.Tie as tie
