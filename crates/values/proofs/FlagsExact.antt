@@ -16,7 +16,7 @@ use Rattle.model.specs.Ranges.{noValue, nextIn, ascending, sizes, rangesOf}
 use Rattle.model.specs.Counters.{listed, auto, Counter, valueBin, pointAt, valueBinAt, autoCount, excludedValue, listedValue, distributed, holds, hasAuto, binCounters, valueCounters, autoCounters}
 use Rattle.model.specs.Sampling.{Reading, known, guardTrue, reading, isIn, Stretches, coverHit, hits}
 use Rattle.model.proofs.Readers.{All}
-use Rattle.model.proofs.Lists.{any-cong, map-map, map-same, length-row}
+use Rattle.model.proofs.Lists.{any-cong, map-cong, map-map, map-same, length-row}
 use Rattle.model.proofs.WellFormed.{GoodPoint, GoodBin, WellFormed}
 use Rattle.model.proofs.Exact.{Divisible, first-exact, portion-exact, auto-exact}
 use Rattle.model.proofs.TableExact.{point-at, divisible}
@@ -66,10 +66,6 @@ unfolding upFrom
 each-value f [] = refl
 each-value f (x ∷ vs) = ap (f (x ∷ []) ∷_) (map-shift (λ k. f (take 1 (drop k (x ∷ vs)))) 0 (length vs) ∙ each-value f vs)
 
-map-same : (f g : ℕ → ℕ) → ((y : ℕ) → f y ≡ g y) → (vs : List ℕ) → map f vs ≡ map g vs
-map-same f g e [] = refl
-map-same f g e (y ∷ vs) = ap₂ _∷_ (e y) (map-same f g e vs)
-
 -- the flags of a cover bin's bins
 pub cover-exact : (p : Point) (good : GoodPoint p) (v : ℕ) (live : Bool) (f : Form) (rs : List Range) → Divisible p good f rs → binCount p f rs ≤ 256
     → map (λ k. asBit (live && inBin p f rs k v)) (upFrom 0 (binCount p f rs)) ≡ coverFlags (lowest p) v live f rs
@@ -77,7 +73,7 @@ unfolding coverFlags inBin
 cover-exact p good v live single rs h few = unfold upFrom in refl
 cover-exact p good v live perValue rs h few =
     each-value (λ l. asBit (live && oneOf v l)) vs
-    ∙ map-same (λ y. asBit (live && oneOf v (y ∷ []))) (λ y. asBit (live && eqb v y)) (λ y. ap (λ (b : Bool). asBit (live && b)) (unfold oneOf in (or-false (eqb v y)))) vs
+    ∙ map-cong (λ y. asBit (live && oneOf v (y ∷ []))) (λ y. asBit (live && eqb v y)) vs (λ y. ap (λ (b : Bool). asBit (live && b)) (unfold oneOf in (or-false (eqb v y))))
     ∙ ap (map (λ y. asBit (live && eqb v y))) (sym (take-all 257 vs (omega arith)) ∙ sym (first-exact p good rs h))
     ∙ sym (value-map live v rs 257 (lowest p))
   where
