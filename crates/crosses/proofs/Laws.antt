@@ -71,12 +71,12 @@ mask-done s b n i m e em = em ∙ ap (λ (j : ℕ). maskOf (headsAt s (b + 3 * j
 
 -- ---- the marks, from the last product to the first
 
-none-left : (n i : ℕ) (xs : List ℕ) → n ≤ i → drop i (take n xs) ≡ []
-none-left n i xs h = let k : length (take n xs) ≤ i = simp length-take (omega arith) in drop-of-length-le (take n xs) k
+taken-end : (n i : ℕ) (xs : List ℕ) → n ≤ i → drop i (take n xs) ≡ []
+taken-end n i xs h = let k : length (take n xs) ≤ i = simp length-take (omega arith) in drop-of-length-le (take n xs) k
 
 pub own-none : (mask n : ℕ) (ms : List ℕ) → 0 ≡ ownMarks mask (drop n (take n ms))
 unfolding ownMarks orAll
-own-none mask n ms = sym (ap (ownMarks mask) (none-left n n ms (omega arith)))
+own-none mask n ms = sym (ap (ownMarks mask) (taken-end n n ms (omega arith)))
 
 pub own-back : (mask n i m own : ℕ) (ms : List ℕ) → 0 < i → i ≤ n → n ≤ length ms → m ≡ ownMark mask (getD ms (i - 1) 0) → own ≡ ownMarks mask (drop i (take n ms))
     → bitOr m own ≡ ownMarks mask (drop (i - 1) (take n ms))
@@ -121,7 +121,7 @@ length-products live n hs ms h k =
 
 pub products-end : (live : Bool) (n i : ℕ) (hs ms : List ℕ) → n ≤ i → productFlags live (drop i (take n hs)) (drop i (take n ms)) ≡ []
 unfolding productFlags pairUp
-products-end live n i hs ms h = ap (λ (xs : List ℕ). productFlags live xs (drop i (take n ms))) (none-left n i hs h)
+products-end live n i hs ms h = ap (λ (xs : List ℕ). productFlags live xs (drop i (take n ms))) (taken-end n i hs h)
 
 -- ---- both
 

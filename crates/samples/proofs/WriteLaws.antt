@@ -21,6 +21,7 @@ use Rattle.model.proofs.Limits.{all-from}
 use Rattle.model.proofs.WellFormed.{GoodPoint, WellFormed}
 use Rattle.model.proofs.TableExact.{point-at}
 use Rattle.model.proofs.Lists.{length-upFrom, head-tail, length-keep}
+use Rattle.model.proofs.RunBits.{asBit-eqb}
 use Rattle.arrays.specs.Put.{put}
 use Rattle.arrays.specs.Flat.{hitFlags, kindOf, kindsOf, readingCode, readingCodes}
 use Rattle.arrays.proofs.PutLaws.{length-put, put-zero, put-at}
@@ -63,14 +64,10 @@ adds-map f g h e [] ns = refl
 adds-map f g h e (x ∷ xs) [] = refl
 adds-map f g h e (x ∷ xs) (n ∷ ns) = ap₂ _∷_ (ap (λ (b : Bool). asBit b + n) (e x)) (adds-map f g h e xs ns)
 
-set-bit : (b : Bool) → isSet (asBit b) ≡ b
-set-bit true = refl
-set-bit false = refl
-
 pub counts-raised : (t : Table) (s : List ℕ) (m : Stretches) (cs : List Counter) (ns : List ℕ)
     → addHits isSet (hitFlags t s m cs) ns ≡ pairUp (λ c n. asBit (hits t s m c) + n) cs ns
 unfolding hitFlags
-counts-raised t s m cs ns = adds-map isSet (λ c. asBit (hits t s m c)) (hits t s m) (λ c. set-bit (hits t s m c)) cs ns
+counts-raised t s m cs ns = adds-map isSet (λ c. asBit (hits t s m c)) (hits t s m) (λ c. asBit-eqb (hits t s m c)) cs ns
 
 -- the same for numbers below k
 adds-from : (f : ℕ → Bool) (g : ℕ → ℕ) (h : ℕ → Bool) (k i : ℕ) (n : ℕ) → i + n ≡ k → ((x : ℕ) → x < k → f (g x) ≡ h x) → (ns : List ℕ)
