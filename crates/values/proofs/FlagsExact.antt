@@ -2,7 +2,7 @@
 -- Assumes nothing.
 use mathlib.Core.Path.{_≡_, refl, sym, ap, ap₂, _∙_}
 use mathlib.Core.Bool.{Bool, true, false, not, _&&_, cond, or-false}
-use mathlib.Core.List.{List, [], _∷_, _++_, map}
+use mathlib.Core.List.{List, [], _∷_, _++_, map, map-append}
 use Prim.Native.Nat.{ℕ, zero, suc, _+_, _-_, _/_, _≤_, _<_, max}
 use native.Mathlib.Omega.{arith}
 use lib.Dec.{ltb, eqb}
@@ -26,10 +26,6 @@ use Rattle.ranges.specs.Taken.{holding, takenBy}
 use Rattle.ranges.proofs.MemberLaws.{in-any}
 use Rattle.ranges.proofs.TakenLaws.{any-taken}
 use Rattle.values.proofs.Dealt.{portion-bins}
-
-pub map-append : {A B : Type 0} (f : A → B) (xs ys : List A) → map f (xs ++ ys) ≡ map f xs ++ map f ys
-map-append f [] ys = refl
-map-append f (x ∷ xs) ys = ap (f x ∷_) (map-append f xs ys)
 
 regroup : (a b c : Bool) → (a && (b && not c)) ≡ ((a && not c) && b)
 regroup true true true = refl

@@ -8,7 +8,7 @@ use native.Mathlib.Omega.{arith}
 use lib.Dec.{leb, eqb}
 use borrow.Author.Needs.{needs}
 use lib.ListN.{length, set, length-append}
-use borrow.Author.Tests.{eq-eqb, ne-eqb, leb-true, ltb-true}
+use borrow.Author.Tests.{eq-eqb, ne-eqb, leb-true, ltb-true, not-true, not-false}
 use Rattle.model.specs.Lists.{upFrom, all, asBit, sumOf, bit}
 use Rattle.model.specs.Table.{Range, span, pattern, Form}
 use Rattle.model.specs.Values.{fieldValue, inRange, inRanges}
@@ -146,14 +146,6 @@ module _ (cur each last v before : ℕ) (r : Range) (l : List ℕ) where
   pub mark-on : (y : Bool) (k : ℕ) → y ≡ inSpan r v → y ≡ true → k ≡ min ((before + placeIn r v) / each) last → set l (cur + k) 1 ≡ markOne cur each last v before r l
   unfolding markOne
   mark-on y k e z q = ap (λ (b : ℕ). set l (cur + b) 1) q ∙ sym (ap (λ (b : Bool). cond b (set l (cur + min ((before + placeIn r v) / each) last) 1) l) (sym e ∙ z))
-
-pub not-true : (y : Bool) → not y ≡ true → y ≡ false
-not-true true e = absurd (false-true e)
-not-true false e = refl
-
-pub not-false : (y : Bool) → not y ≡ false → y ≡ true
-not-false true e = refl
-not-false false e = absurd (false-true (sym e))
 
 pub in-span-true : (r : Range) (v : ℕ) (y : Bool) → y ≡ inSpan r v → y ≡ true → inSpan r v ≡ true
 in-span-true r v y e z = sym e ∙ z

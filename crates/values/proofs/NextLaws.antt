@@ -14,7 +14,7 @@ use Rattle.model.specs.Ranges.{noValue, nextIn}
 use Rattle.model.proofs.Lists.{none-left, one-left}
 use Rattle.values.specs.Flags.{valueFlags}
 use Rattle.arrays.specs.Put.{put}
-use Rattle.arrays.proofs.PutLaws.{put-nil, put-put}
+use Rattle.arrays.proofs.PutLaws.{put-put}
 
 -- ---- the flags of the values
 
@@ -46,8 +46,3 @@ write-one c e b zs ys l l′ q fit ee el =
     let long : length zs ≡ suc (length ys) = ap length q in
     let one : e ≡ c + length (b ∷ []) = omega arith in
     (omega arith, ap₂ (λ (m : ℕ) (z : List ℕ). put m ys z) one el ∙ put-put c (b ∷ []) ys l (omega arith) ∙ ap (λ (z : List ℕ). put c z l) (sym q))
-
--- nothing is left to write
-pub write-end : (c cur : ℕ) (zs all l l₀ : List ℕ) → zs ≡ [] → c + length zs ≡ cur + length all → put c zs l ≡ put cur all l₀
-    → (c ≡ cur + length all) × (l ≡ put cur all l₀)
-write-end c cur zs all l l₀ q e w = (omega (arith, ap length q), sym (ap (λ (z : List ℕ). put c z l) q ∙ put-nil c l) ∙ w)

@@ -2,7 +2,7 @@
 -- Assumes nothing.
 use mathlib.Core.Path.{_≡_, refl, sym, ap, ap₂, _∙_}
 use mathlib.Core.Bool.{Bool, true, false, not, _&&_, _||_}
-use mathlib.Core.List.{List, _++_}
+use mathlib.Core.List.{List, _++_, map-append}
 use Prim.Native.Nat.{ℕ, zero, suc, _+_, _*_, _≤_, _<_}
 use native.Mathlib.Omega.{arith}
 use lib.Dec.{leb, eqb}
@@ -24,7 +24,7 @@ use Rattle.model.proofs.RawExact.{raw-exact}
 use Rattle.values.specs.Flags.{hit, flagsIn, excludedIn, listedIn}
 use Rattle.arrays.specs.Flat.{hitFlags}
 use Rattle.values.specs.Points.{someOwn, hasAutoAt, autoPart, pointFlags}
-use Rattle.values.proofs.FlagsExact.{map-append, flags-exact, auto-hits}
+use Rattle.values.proofs.FlagsExact.{flags-exact, auto-hits}
 
 -- ---- which bins keep a point from having auto bins
 

@@ -4,7 +4,6 @@ use mathlib.Core.Path.{_≡_, sym, ap, ap₂, _∙_}
 use mathlib.Core.Bool.{Bool, true, false, not, _&&_, _||_}
 use mathlib.Core.List.{List, [], _++_}
 use Prim.Native.Nat.{ℕ, _+_, _-_, _^_, _≤_, _<_, min}
-use native.Mathlib.Omega.{arith}
 use lib.Dec.{leb, eqb}
 use lib.ListN.{length, length-append}
 use borrow.Author.Needs.{needs}
@@ -14,11 +13,9 @@ use Rattle.model.specs.Counters.{autoCount}
 use Rattle.model.specs.Format.{byte, u16, pointRecord}
 use Rattle.ranges.specs.Types.{powerOf, lowestOf}
 use Rattle.ranges.proofs.RangeLaws.{low-record}
-use Rattle.arrays.specs.Put.{put}
 use Rattle.model.specs.Raw.{binsAt}
 use Rattle.model.proofs.Lists.{none-left, one-left}
 use Rattle.values.specs.Flags.{hit, flagsIn, excludedIn, listedIn, autoFlags}
-use Rattle.arrays.proofs.PutLaws.{put-put}
 use Rattle.values.specs.Points.{isOwn, someOwn, hasAutoAt, autoPart, pointFlags}
 use Rattle.values.proofs.Laws.{length-fixed}
 
@@ -85,10 +82,3 @@ module _ (s w : List ℕ) (point a r n b k p v low : ℕ) (x l has : Bool) (ex :
 
   pub point-length : length (pointFlags s point a r n b k w p v) ≡ length (flagsIn (hit w low v x l) p (binsAt s a r n)) + length (autoPart has (not x) v (pointRecord s point))
   point-length = ap length point-parts ∙ length-append (flagsIn (hit w low v x l) p (binsAt s a r n)) (autoPart has (not x) v (pointRecord s point))
-
--- two writes in a row
-pub both-written : (cur c e : ℕ) (xs ys zs l l₁ l₂ : List ℕ) → zs ≡ xs ++ ys → cur + length zs ≤ length l → c ≡ cur + length xs → l₁ ≡ put cur xs l → e ≡ c + length ys → l₂ ≡ put c ys l₁
-    → (e ≡ cur + length zs) × (l₂ ≡ put cur zs l)
-both-written cur c e xs ys zs l l₁ l₂ q fit ec w₁ ee w₂ =
-    let long : length zs ≡ length xs + length ys = ap length q ∙ length-append xs ys in
-    (omega arith, w₂ ∙ ap₂ (λ (m : ℕ) (z : List ℕ). put m ys z) ec w₁ ∙ put-put cur xs ys l (omega arith) ∙ ap (λ (z : List ℕ). put cur z l) (sym q))

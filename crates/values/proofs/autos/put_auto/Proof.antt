@@ -1,8 +1,8 @@
 use mathlib.Core.Path.{_≡_, refl}
 use mathlib.Core.List.{[], _∷_}
 use native.Mathlib.Omega.{arith}
+use borrow.Author.Tests.{not-true, not-false}
 use Rattle.model.specs.Table.{span}
-use Rattle.values.proofs.Laws.{not-true, not-false}
 use Rattle.values.proofs.Fixed.{fixed-dead, auto-live}
 use borrow.Author.Needs.{needs}
 use Rattle.values.proofs.autos.put_auto.Statement.{statement}

@@ -1,9 +1,10 @@
 use mathlib.Core.Path.{_≡_, _∙_}
 use Prim.Native.Nat.{_+_, _-_, _≤_}
 use native.Mathlib.Omega.{arith}
+use borrow.Author.Tests.{not-true, not-false}
 use Rattle.model.specs.Format.{pointRecord}
 use Rattle.arrays.proofs.Written.{as-written, unwritten}
-use Rattle.values.proofs.Laws.{not-true, not-false, length-fixed}
+use Rattle.values.proofs.Laws.{length-fixed}
 use Rattle.values.proofs.PointLaws.{low-is, high-is, auto-part, auto-length, no-auto}
 use borrow.Author.Needs.{needs}
 use Rattle.values.proofs.points.put_autos.Statement.{statement}

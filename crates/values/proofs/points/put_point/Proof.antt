@@ -1,6 +1,7 @@
 use native.Mathlib.Omega.{arith}
+use Rattle.arrays.proofs.Written.{both-written}
 use Rattle.values.specs.Flags.{excludedIn}
-use Rattle.values.proofs.PointLaws.{point-parts, point-length, both-written}
+use Rattle.values.proofs.PointLaws.{point-parts, point-length}
 use borrow.Author.Needs.{needs}
 use Rattle.values.proofs.points.put_point.Statement.{statement}
 use Rattle.values.proofs.points.put_point.Tie as tie

@@ -2,10 +2,11 @@ use mathlib.Core.Path.{_≡_, refl, ap, _∙_}
 use Prim.Native.Nat.{_+_, _-_, _≤_}
 use native.Mathlib.Omega.{arith}
 use lib.ListN.{length}
+use Rattle.arrays.proofs.Written.{put-end}
 use Rattle.model.specs.Raw.{rangesAt}
 use Rattle.arrays.specs.Put.{put}
 use Rattle.values.specs.Flags.{valueFlags}
-use Rattle.values.proofs.NextLaws.{value-turn, value-stop, value-end, write-one, write-end}
+use Rattle.values.proofs.NextLaws.{value-turn, value-stop, value-end, write-one}
 use Rattle.values.proofs.rising.put_values.Statement.{statement}
 use Rattle.values.proofs.rising.put_values.Tie as tie
 
@@ -33,7 +34,7 @@ returns c =
     let l = c .before .before .before .loop in
     let y = c .before .next-in in
     let z = value-stop (a .live) (a .v) (rangesAt (a .t .now) (a .at) (a .n)) 257 (l .k) (l .x) (y .result) (omega arith) (y .ensures .0) (omega arith) in
-    write-end (l .c) (a .cur) _ _ (l .flags) (a .flags .now) z (l .inv .2) (l .inv .3)
+    put-end (l .c) (a .cur) _ _ (l .flags) (a .flags .now) z (l .inv .2) (l .inv .3)
 
 put-one-requires : tie.Need-put-one-requires Inv-loop μ-loop
 put-one-requires c κs =
@@ -70,7 +71,7 @@ returns-2 c =
     let a = c .before .before .before .before .args in
     let l = c .before .loop in
     let z = value-end (a .live) (a .v) (rangesAt (a .t .now) (a .at) (a .n)) 257 (l .k) (l .x) (omega arith) in
-    write-end (l .c) (a .cur) _ _ (l .flags) (a .flags .now) z (l .inv .2) (l .inv .3)
+    put-end (l .c) (a .cur) _ _ (l .flags) (a .flags .now) z (l .inv .2) (l .inv .3)
 
 pub put-values-spec : {M : Type 1} → statement M
 put-values-spec =
