@@ -27,12 +27,12 @@ use Rattle.model.proofs.RawExact.{raw-exact, many-points}
 use Rattle.model.proofs.Lists.{pair-first, pair-same}
 use Rattle.model.proofs.NextValue.{IsSpan}
 use Rattle.model.proofs.Selects.{own-covers}
-use Rattle.ranges.specs.Types.{Wide}
+use Rattle.ranges.specs.Types.{Wide, isSpan}
 use Rattle.layout.specs.Places.{layoutOf}
 use Rattle.layout.specs.declared.Layout.{Layout}
 use Rattle.arrays.specs.Flat.{covers, origin, meetBit}
 use Rattle.ranges.specs.Taken.{excludedAt}
-use Rattle.left.specs.Left.{leftIn, isSpan}
+use Rattle.left.specs.Left.{leftIn}
 use Rattle.left.proofs.LeftLaws.{meets-left}
 use Rattle.values.specs.Points.{hasAutoAt}
 use Rattle.values.proofs.PointExact.{auto-raw, point-raw, few-counters, few-values, bins-raw}

@@ -16,7 +16,8 @@ use Rattle.model.specs.Format.{pointRecord}
 use Rattle.model.specs.Raw.{binsAt}
 use Rattle.values.specs.Points.{hasAutoAt}
 use Rattle.ranges.specs.Taken.{excludedAt}
-use Rattle.left.specs.Left.{leftIn, isSpan}
+use Rattle.ranges.specs.Types.{isSpan}
+use Rattle.left.specs.Left.{leftIn}
 
 -- ---- the bins that a value bin stands for
 

@@ -18,10 +18,10 @@ ghost use Rattle.model.specs.Values.{lowest, highest};
 ghost use Rattle.model.specs.Counters.{autoCount};
 ghost use Rattle.model.specs.Format.{pointRecord};
 ghost use Rattle.model.specs.Raw.{binAt, binsAt};
-ghost use Rattle.ranges.specs.Types.{Wide};
+ghost use Rattle.ranges.specs.Types.{Wide, isSpan};
 ghost use Rattle.arrays.specs.Put.{put};
 ghost use Rattle.ranges.specs.Taken.{excludedAt};
-ghost use Rattle.left.specs.Left.{isSpan, Placed};
+ghost use Rattle.left.specs.Left.{Placed};
 ghost use Rattle.covers.specs.Parts.{parts, ownParts, partsIn, autoParts, pointParts, leftBits, smallBin, Searchable};
 
 // The cover bin at b, its ranges from r on.

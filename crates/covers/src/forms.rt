@@ -19,7 +19,8 @@ ghost use Rattle.model.specs.Ranges.{sizes, portionRanges};
 ghost use Rattle.model.specs.Raw.{rangesAt};
 ghost use Rattle.arrays.specs.Put.{put};
 ghost use Rattle.ranges.specs.Taken.{excludedAt};
-ghost use Rattle.left.specs.Left.{leftIn, isSpan, Placed};
+ghost use Rattle.ranges.specs.Types.{isSpan};
+ghost use Rattle.left.specs.Left.{leftIn, Placed};
 ghost use Rattle.covers.specs.Parts.{oneValue, valueParts, portionParts, leftBits};
 
 fn is_open(gate: &[u8], g: usize) -> bool

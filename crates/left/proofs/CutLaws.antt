@@ -19,8 +19,8 @@ use Rattle.model.proofs.Booleans.{false-true}
 use Rattle.model.proofs.Readers.{All, all-append}
 use Rattle.model.proofs.NextValue.{IsSpan}
 use Rattle.model.proofs.Lists.{none-left, one-left}
-use Rattle.ranges.specs.Types.{valueAt}
-use Rattle.left.specs.Left.{leftIn, isSpan}
+use Rattle.ranges.specs.Types.{valueAt, isSpan}
+use Rattle.left.specs.Left.{leftIn}
 use Rattle.left.proofs.LeftLaws.{left-empty}
 use Rattle.left.proofs.SpanLaws.{part-past}
 use Rattle.left.proofs.Pieces.{Whole, left-append}

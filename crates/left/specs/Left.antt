@@ -1,12 +1,12 @@
 -- What is left of some ranges after others took their values, over lists of ranges. proofs/LeftLaws.antt: `meetsIn` of the model is this.
 -- Assumes nothing.
 use Prim.Native.Nat.{ℕ, _≤_, max}
-use mathlib.Core.Bool.{Bool, true, false, not, _&&_, cond}
+use mathlib.Core.Bool.{Bool, not, _&&_, cond}
 use mathlib.Core.List.{List, [], _∷_, map}
 use lib.Dec.{leb, eqb}
 use lib.ListN.{getD}
 use Rattle.model.specs.Lists.{any}
-use Rattle.model.specs.Table.{Range, span, pattern}
+use Rattle.model.specs.Table.{Range, span}
 use Rattle.model.specs.Values.{inRanges}
 use Rattle.model.specs.Ranges.{noValue, nextIn, ascending, after}
 use Rattle.model.specs.Raw.{rangesAt}
@@ -28,10 +28,6 @@ leftAfter covers excluded lo hi r = leftFrom covers excluded hi (max lo (after r
 -- A listed value from lo to hi is left: at the least one from lo up, or at the least one after an excluded span.
 unfoldable pub leftIn : List Range → List Range → ℕ → ℕ → Bool
 leftIn covers excluded lo hi = any (isLeft covers excluded hi) (map (λ x. nextIn covers (max lo x)) (lo ∷ map after excluded))
-
-abbrev pub isSpan : Range → Bool
-isSpan (span lo hi) = true
-isSpan (pattern bits mask) = false
 
 -- the j-th value from low up of some ranges, counted from 0; a number above every value where there is none
 unfoldable pub nthOf : List Range → ℕ → ℕ → ℕ

@@ -17,7 +17,8 @@ ghost use Rattle.model.specs.Format.{rangeRecord};
 ghost use Rattle.model.specs.Ranges.{size, cutRange, cutRanges};
 ghost use Rattle.model.specs.Raw.{rangesAt};
 ghost use Rattle.ranges.specs.Taken.{excludedAt};
-ghost use Rattle.left.specs.Left.{leftIn, isSpan, Placed};
+ghost use Rattle.ranges.specs.Types.{isSpan};
+ghost use Rattle.left.specs.Left.{leftIn, Placed};
 
 // The span from a to b.
 pub fn left_cut_span(

@@ -16,7 +16,8 @@ ghost use Rattle.model.specs.Table.{span};
 ghost use Rattle.model.specs.Ranges.{sizes, portionRanges};
 ghost use Rattle.model.specs.Raw.{rangesAt};
 ghost use Rattle.ranges.specs.Taken.{excludedAt};
-ghost use Rattle.left.specs.Left.{leftIn, isSpan, Placed, nthOf};
+ghost use Rattle.ranges.specs.Types.{isSpan};
+ghost use Rattle.left.specs.Left.{leftIn, Placed, nthOf};
 
 // ---- one bin per value
 

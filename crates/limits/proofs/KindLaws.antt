@@ -11,7 +11,8 @@ use Rattle.model.specs.Lists.{all}
 use Rattle.model.specs.Table.{Kind, cover, ignore, illegal, default, Point, Range, perValue}
 use Rattle.model.specs.Format.{kindFrom, formFrom}
 use Rattle.model.specs.Ranges.{rangeCount, coversOf, countersOf, transitionsOf}
-use Rattle.limits.specs.Bins.{isSpan, spannedBy, barsOf}
+use Rattle.ranges.specs.Types.{isSpan}
+use Rattle.limits.specs.Bins.{spannedBy, barsOf}
 
 -- ---- kinds
 

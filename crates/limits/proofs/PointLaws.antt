@@ -22,12 +22,12 @@ use Rattle.model.proofs.TableExact.{point-at, divisible}
 use Rattle.model.proofs.Access.{points-access, bins-access}
 use Rattle.model.proofs.Measure.{sum-add}
 use Rattle.model.proofs.RawValues.{length-bins}
-use Rattle.ranges.specs.Types.{AllWide}
+use Rattle.ranges.specs.Types.{AllWide, isSpan}
 use Rattle.layout.specs.Places.{layoutOf, Small}
 use Rattle.layout.specs.declared.Layout.{Layout}
 use Rattle.limits.specs.Walks.{Readable}
 use Rattle.limits.specs.Tallies.{Counted}
-use Rattle.limits.specs.Bins.{added, Entries, here, isSpan, spannedBy, countable, binPoint, binCovers, binSingles, barsOf, binBars, placePoint, placeSingles, placeBars, pointBelow, autosAt, countersIn}
+use Rattle.limits.specs.Bins.{added, Entries, here, spannedBy, countable, binPoint, binCovers, binSingles, barsOf, binBars, placePoint, placeSingles, placeBars, pointBelow, autosAt, countersIn}
 use Rattle.limits.proofs.RowLaws.{any-sum}
 use Rattle.limits.proofs.EntryLaws.{added-at, sum-only}
 use Rattle.limits.proofs.ReadLaws.{read-layout, read-well, bin-points, transition-points}

@@ -18,9 +18,8 @@ use Rattle.model.specs.Raw.{rows, rangesAt}
 use Rattle.model.proofs.Booleans.{false-true, and-left, and-right}
 use Rattle.model.proofs.NextValue.{next-ge, next-below}
 use Rattle.model.proofs.Lists.{none-left, one-left}
-use Rattle.ranges.specs.Types.{valueAt}
+use Rattle.ranges.specs.Types.{valueAt, isSpan}
 use Rattle.limits.specs.declared.values.Stretch.{Stretch}
-use Rattle.limits.specs.Bins.{isSpan}
 use Rattle.limits.specs.Spans.{inOrder, rising, nearerOf, FirstOf}
 
 -- ---- a record

@@ -2,16 +2,17 @@
 -- Assumes nothing.
 use Prim.Native.Nat.{ℕ, _+_, _*_, _≤_, min}
 use mathlib.Core.Path.{_≡_}
-use mathlib.Core.Bool.{Bool, true, false, _&&_, cond}
+use mathlib.Core.Bool.{Bool, true, _&&_, cond}
 use mathlib.Core.List.{List, [], _∷_, map}
 use lib.Dec.{leb, ltb, eqb}
 use lib.ListN.{length, getD, set}
 use Rattle.model.specs.Lists.{upFrom, all}
-use Rattle.model.specs.Table.{Kind, cover, ignore, illegal, default, Range, span, pattern, Form, single, perValue, fixed, ValueBin}
+use Rattle.model.specs.Table.{Kind, cover, ignore, illegal, default, Range, Form, single, perValue, fixed, ValueBin}
 use Rattle.model.specs.Counters.{autoCount, productOf}
 use Rattle.model.specs.Format.{byte, u16, kindFrom, formFrom, pointRecord}
 use Rattle.model.specs.Ranges.{rangeCount, countersOf, coversOf, transitionsOf}
 use Rattle.model.specs.Raw.{rangesAt}
+use Rattle.ranges.specs.Types.{isSpan}
 
 -- ---- entries: a number for each point
 
@@ -37,10 +38,6 @@ abbrev pub here : ℕ → ℕ
 here at = at
 
 -- ---- value bins
-
-abbrev pub isSpan : Range → Bool
-isSpan (span lo hi) = true
-isSpan (pattern bits mask) = false
 
 -- where there is a bin per value, the ranges are spans
 abbrev pub spannedBy : Form → List Range → Bool

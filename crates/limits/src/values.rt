@@ -14,8 +14,7 @@ ghost use Rattle.model.specs.Table.{span};
 ghost use Rattle.model.specs.Format.{pointRecord, rangeRecord};
 ghost use Rattle.model.specs.Ranges.{ascending, firstValues, sizes};
 ghost use Rattle.model.specs.Raw.{rangesAt};
-ghost use Rattle.ranges.specs.Types.{Wide};
-ghost use Rattle.limits.specs.Bins.{isSpan};
+ghost use Rattle.ranges.specs.Types.{Wide, isSpan};
 ghost use Rattle.limits.specs.Spans.{inOrder, rising, nearerOf, FirstOf};
 
 // Values that stand in a row.

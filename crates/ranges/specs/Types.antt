@@ -1,10 +1,10 @@
--- A point's type by its width and its sign, as inner code passes it on; and the points whose widths are known to be widths.
+-- A point's type by its width and its sign, as inner code passes it on; points whose widths are known to be widths; ranges that are spans.
 -- Assumes nothing.
 use Prim.Native.Nat.{ℕ, _+_, _-_, _*_, _^_, _<_, _≤_}
-use mathlib.Core.Bool.{Bool, cond}
+use mathlib.Core.Bool.{Bool, true, false, cond}
 use mathlib.Core.List.{List}
 use mathlib.Core.Option.{none}
-use Rattle.model.specs.Table.{Point}
+use Rattle.model.specs.Table.{Point, Range, span, pattern}
 use Rattle.model.specs.Values.{fieldValue, inType}
 use Rattle.model.specs.Format.{byte}
 
@@ -32,3 +32,7 @@ pub record Wide (s : List ℕ) (at : ℕ) : Type 0 where
 -- so have the n points whose records stand from `points` on
 abbrev pub AllWide : List ℕ → ℕ → ℕ → Type 0
 AllWide s points n = (i : ℕ) → i < n → Wide s (points + 11 * i)
+
+abbrev pub isSpan : Range → Bool
+isSpan (span lo hi) = true
+isSpan (pattern bits mask) = false

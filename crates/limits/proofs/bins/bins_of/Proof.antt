@@ -5,7 +5,8 @@ use Rattle.model.specs.Lists.{all}
 use Rattle.model.specs.Format.{byte, u16, pointRecord}
 use Rattle.model.specs.Ranges.{firstValues}
 use Rattle.model.specs.Raw.{rangesAt}
-use Rattle.limits.specs.Bins.{isSpan, ownRanges}
+use Rattle.ranges.specs.Types.{isSpan}
+use Rattle.limits.specs.Bins.{ownRanges}
 use Rattle.limits.proofs.KindLaws.{form-single, form-per-value, form-fixed, spanned-per-value}
 use borrow.Author.Needs.{needs}
 use Rattle.limits.proofs.bins.bins_of.Statement.{statement}

@@ -7,7 +7,7 @@ use Rattle.model.specs.Lists.{all}
 use Rattle.model.specs.Format.{rangeRecord}
 use Rattle.model.specs.Ranges.{sizes}
 use Rattle.model.specs.Raw.{rangesAt}
-use Rattle.limits.specs.Bins.{isSpan}
+use Rattle.ranges.specs.Types.{isSpan}
 use Rattle.limits.specs.Spans.{rising}
 use Rattle.limits.proofs.RowLaws.{all-start, rows-first, rows-others}
 use Rattle.limits.proofs.SpanLaws.{in-order, answerFrom, rising-start, rising-done, rising-stop, rising-on}

@@ -4,7 +4,7 @@ use mathlib.Core.Bool.{true}
 use Rattle.model.specs.Lists.{all}
 use Rattle.model.specs.Format.{rangeRecord}
 use Rattle.model.specs.Raw.{rangesAt}
-use Rattle.limits.specs.Bins.{isSpan}
+use Rattle.ranges.specs.Types.{isSpan}
 use Rattle.limits.proofs.RowLaws.{all-start, rows-first, rows-others}
 use Rattle.limits.proofs.SpanLaws.{Nearest, nearest-start, nearest-on, nearest-done}
 use borrow.Author.Needs.{needs}
