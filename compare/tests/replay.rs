@@ -7,7 +7,7 @@ use compare::random::{self, Caller, Rng};
 use compare::replay::{log, reason, refused_table, replay, Entry};
 use std::collections::BTreeMap;
 use std::fs;
-use std::io::Write;
+use std::io::{ErrorKind, Write};
 use std::os::unix::ffi::OsStringExt;
 use std::os::unix::fs::{MetadataExt, PermissionsExt};
 use std::os::unix::process::CommandExt;
@@ -22,7 +22,15 @@ fn program() -> PathBuf {
 }
 
 fn said(command: &mut Command) -> String {
-    let output = command.output().expect("replay runs");
+    // A copy of the program is busy while another thread's child still holds it open.
+    let mut ran = command.output();
+    while ran
+        .as_ref()
+        .is_err_and(|e| e.kind() == ErrorKind::ExecutableFileBusy)
+    {
+        ran = command.output();
+    }
+    let output = ran.expect("replay runs");
     assert!(
         output.status.success() && output.stderr.is_empty(),
         "{output:?}"
