@@ -50,15 +50,6 @@ pub fn item_least(t: &[u8], item: usize) -> u32
     least_at(t, l.points, l.point_count, l.crosses, l.cross_count, item)
 }
 
-// The item's weight, for any item of the table.
-pub fn item_weight(t: &[u8], item: usize) -> u16
-    requires { ⌜ accepted (now t) ≡ true ⌝ }
-    ensures { λ r. ⌜ r ≡ weight (tableOf (now (t .entry))) item ⌝ }
-{
-    let l = layout_of(t);
-    weight_at(t, l.points, l.point_count, l.crosses, l.cross_count, item)
-}
-
 fn put_leasts_at(leasts: &mut [u32], t: &[u8], p: usize, n: usize, c: usize, m: usize)
     requires { ⌜ (p < 16777216) × (n < 65536) × (c < 16777216) × (m < 65536) × (n + m ≤ length (now leasts)) ⌝ }
     ensures { λ _. ⌜ now (leasts .exit) ≡ put 0 (leastsAt (now (t .entry)) p n c m) (now (leasts .entry)) ⌝ }

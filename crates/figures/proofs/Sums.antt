@@ -9,7 +9,6 @@ use native.Mathlib.Nat.{sub-zero, zero-mul, mul-le-mul-left, div-le-of-le-mul}
 use native.Mathlib.Omega.{arith}
 use native.Mathlib.Numerals.{add-one}
 use lib.Dec.{eqb}
-use borrow.Author.Needs.{needs}
 use borrow.Author.Tests.{eqb-true, ne-eqb}
 use Rattle.model.specs.Lists.{upFrom, keep, sumOf}
 use Rattle.model.specs.Table.{Table}
@@ -106,8 +105,6 @@ mean-sums items = refl
 pub figure-done : (f : ℕ → Item) (n i : ℕ) (g : Group) → sums (itemsFrom f 0 n) ≡ sumsFrom g (itemsFrom f i (n - i)) → n ≤ i
     → (r : GroupFigure) → r ≡ groupCase (mean g) → r ≡ groupCase (groupOf (itemsFrom f 0 n))
 figure-done f n i g inv h r e = e ∙ ap (λ (s : Group). groupCase (mean s)) (sym (items-done f n i g _ inv h)) ∙ ap groupCase (mean-sums (itemsFrom f 0 n))
-
-pub ruleset groups = (needs, items-start, items-on, figure-done)
 
 pub millionths-some : (o : Option ℕ) (m : ℕ) → groupCase o ≡ Millionths m → o ≡ some m
 millionths-some none m e = let z : _≡_ {A = ℕ} 0 1 = cc in absurd (omega arith)

@@ -4,11 +4,10 @@ use Prim.Native.Nat.{ℕ, _≤_, max}
 use mathlib.Core.Bool.{Bool, not, _&&_, cond}
 use mathlib.Core.List.{List, [], _∷_, map}
 use lib.Dec.{leb, eqb}
-use lib.ListN.{getD}
 use Rattle.model.specs.Lists.{any}
 use Rattle.model.specs.Table.{Range, span}
 use Rattle.model.specs.Values.{inRanges}
-use Rattle.model.specs.Ranges.{noValue, nextIn, ascending, after}
+use Rattle.model.specs.Ranges.{nextIn, after}
 use Rattle.model.specs.Raw.{rangesAt}
 
 -- ---- what is left
@@ -28,10 +27,6 @@ leftAfter covers excluded lo hi r = leftFrom covers excluded hi (max lo (after r
 -- A listed value from lo to hi is left: at the least one from lo up, or at the least one after an excluded span.
 unfoldable pub leftIn : List Range → List Range → ℕ → ℕ → Bool
 leftIn covers excluded lo hi = any (isLeft covers excluded hi) (map (λ x. nextIn covers (max lo x)) (lo ∷ map after excluded))
-
--- the j-th value from low up of some ranges, counted from 0; a number above every value where there is none
-unfoldable pub nthOf : List Range → ℕ → ℕ → ℕ
-nthOf rs low j = getD (ascending 257 rs low) j noValue
 
 -- ---- a search in the table's bytes
 

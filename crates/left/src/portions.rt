@@ -1,9 +1,7 @@
 // The bins of a value bin that stands for several, and auto bins: whether a value of the j-th is left from lo to hi.
 use crate::cuts::left_cut_span;
 use crate::cuts::left_cuts;
-use crate::search::left_value;
 use ranges::next::larger;
-use ranges::next::next_in;
 use ranges::sizes::sizes_at;
 use ranges::sizes::span_size;
 ghost use mathlib.Core.Path.{_≡_};
@@ -17,49 +15,7 @@ ghost use Rattle.model.specs.Ranges.{sizes, portionRanges};
 ghost use Rattle.model.specs.Raw.{rangesAt};
 ghost use Rattle.ranges.specs.Taken.{excludedAt};
 ghost use Rattle.ranges.specs.Types.{isSpan};
-ghost use Rattle.left.specs.Left.{leftIn, Placed, nthOf};
-
-// ---- one bin per value
-
-// The j-th value from low up of the k ranges from cover on, counted from 0; 2^33 where there is none.
-pub fn nth_value(t: &[u8], cover: usize, k: usize, low: u64, j: usize) -> u64
-    requires { ⌜ (cover ≤ 1000000000) × (k ≤ 65535) × (low ≤ 8589934592) × (j ≤ 256) ⌝ }
-    ensures { λ r. ⌜ r ≡ nthOf (rangesAt (now (t .entry)) cover k) low j ⌝ }
-{
-    let mut x = low;
-    let mut i = 0;
-    while i < j {
-        let v = next_in(t, cover, k, x);
-        if v >= 8589934592 {
-            return 8589934592;
-        }
-        x = v + 1;
-        i += 1;
-    }
-    next_in(t, cover, k, x)
-}
-
-pub fn left_nth(
-    t: &[u8],
-    bins: usize,
-    ranges: usize,
-    n: usize,
-    p: u8,
-    cover: usize,
-    k: usize,
-    low: u64,
-    j: usize,
-    lo: u64,
-    hi: u64,
-) -> bool
-    requires { ⌜ Placed cover k bins ranges n lo hi × (low ≤ 8589934592) × (j ≤ 256) ⌝ }
-    ensures { λ r. ⌜ r ≡ leftIn (span (nthOf (rangesAt (now (t .entry)) cover k) low j) (nthOf (rangesAt (now (t .entry)) cover k) low j) ∷ []) (excludedAt (now (t .entry)) bins ranges n p) lo hi ⌝ }
-{
-    let v = nth_value(t, cover, k, low, j);
-    left_value(t, bins, ranges, n, p, v, lo, hi)
-}
-
-// ---- a fixed number of bins, and auto bins
+ghost use Rattle.left.specs.Left.{leftIn, Placed};
 
 fn product(a: u64, b: u64) -> u64
     requires { ⌜ (a ≤ 65536) × (b ≤ 17592186044416) ⌝ }

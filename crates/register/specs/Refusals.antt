@@ -2,7 +2,7 @@
 -- Assumes nothing.
 use Prim.Native.Nat.{ℕ, _+_, _*_, _^_, _≤_, _<_}
 use mathlib.Core.Path.{_≡_}
-use mathlib.Core.Bool.{Bool, true, _&&_}
+use mathlib.Core.Bool.{Bool, _&&_}
 use mathlib.Core.List.{List, [], _∷_, _++_}
 use lib.Dec.{leb, ltb, eqb}
 use lib.ListN.{length, take, drop}
@@ -12,7 +12,7 @@ use Rattle.model.specs.Sampling.{valueWord, unknownWord}
 use Rattle.model.specs.Figures.{itemCount}
 use Rattle.model.specs.Format.{byte, numberOf, Outcome, rejected, decoded, decode}
 use Rattle.model.specs.Raw.{recordsPlace}
-use Rattle.model.specs.Register.{pointTotal, counterTotal, runTotal, illegalTotal, wordsNeeded, flagOf, samplesOf, consistent, inWidths, Call, sample, askItem, registerTests, lastSample, callTests}
+use Rattle.model.specs.Register.{pointTotal, counterTotal, runTotal, illegalTotal, flagOf, samplesOf, Call, sample, askItem, registerTests, lastSample, callTests}
 use Rattle.table.specs.declared.answer.Facts.{Facts}
 use Rattle.table.specs.Check.{factsOf}
 
@@ -74,16 +74,6 @@ ownRefusal s f v report flag samples =
 pub record SampleRefusal (s : List ℕ) (f : Facts) (w v report : List ℕ) (r : ℕ) : Type 0 where
   pub exact : (t : Table) → decode s ≡ decoded t → Describes f t → r ≡ firstFailed (callTests t w (sample v report))
   pub long : r ≡ 0 → wordsOf f ≤ length w
-
--- what is known of a sample that no test refuses
-pub record Taken (t : Table) (w v report : List ℕ) : Type 0 where
-  pub long : wordsNeeded t ≤ length w
-  pub consistent : consistent t w ≡ true
-  pub whole : length v ≡ 4 + 2 * pointTotal t
-  pub widths : inWidths t v ≡ true
-  pub room : illegalTotal t ≤ length report
-  pub running : flagOf w ≡ 1
-  pub fits : samplesOf w < lastSample
 
 -- ---- a call on the table's bytes
 

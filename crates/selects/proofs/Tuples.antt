@@ -6,7 +6,7 @@ use Prim.Native.Nat.{ℕ, zero, suc, _+_, _*_, _-_, _/_, _%_, _≤_, _<_}
 use native.Mathlib.Nat.{mul-assoc, div-add-mod', mod-lt, mod-eq-of-lt, div-eq-of-lt, div-lt-iff-lt-mul, mul-add-div-right, mul-add-mod-self-right}
 use native.Mathlib.Omega.{arith}
 use lib.ListN.{length, getD, drop, length-map, List·getD-append}
-use lib.Seq.{getD-append-add, drop-cons}
+use lib.Seq.{getD-append-add}
 use Rattle.model.specs.Lists.{concatOf}
 use Rattle.model.specs.Counters.{CoverBin, noCoverBin, tuples, productOf}
 use Rattle.model.proofs.Lists.{getD-map}
@@ -113,7 +113,7 @@ pick-at (cs ∷ css) [] p h k = absurd (omega (arith, let z : 0 ≡ suc (length 
 pick-at (cs ∷ css) (d ∷ ds) zero h k = refl
 pick-at (cs ∷ css) (d ∷ ds) (suc p) h k = pick-at css ds p (omega arith) (omega arith)
 
--- the part at a position of tuple i is the bin with the number that `digit_of` answers
+-- the part at a position of tuple i is the bin that the digit there says
 pub part-at : (css : List (List CoverBin)) (i p : ℕ) → i < many (map length css) → p < length css
     → getD (getD (tuples css) i []) p noCoverBin ≡ getD (getD css p []) (getD (digits (map length css) i) p 0) noCoverBin
 part-at css i p h k =
@@ -122,31 +122,13 @@ part-at css i p h k =
 
 -- ---- one digit, by division from the last part on
 
-turns-none : (ns : List ℕ) (i : ℕ) → i ≡ turns (drop (length ns) ns) i
+pub turns-start : (ns : List ℕ) (i : ℕ) → i ≡ turns (drop (length ns) ns) i
 unfolding turns
-turns-none [] i = refl
-turns-none (n ∷ ns) i = turns-none ns i
+turns-start [] i = refl
+turns-start (n ∷ ns) i = turns-start ns i
 
 pub digit-at : (ns : List ℕ) (i p : ℕ) → p < length ns → turns (drop (suc p) ns) i % getD ns p 0 ≡ getD (digits ns i) p 0
 unfolding digits
 digit-at [] i p h = absurd (let z : p < 0 = h in omega arith)
 digit-at (n ∷ ns) i zero h = refl
 digit-at (n ∷ ns) i (suc p) h = digit-at ns i p (omega arith)
-
--- the loop's start, a turn of it, and its end
-module _ (ns : List ℕ) (i : ℕ) where
-  pub turns-start : i ≡ turns (drop (length ns) ns) i
-  turns-start = turns-none ns i
-
-  module _ (j rest : ℕ) (inv : rest ≡ turns (drop j ns) i) (r : ℕ) where
-    pub turns-on : 1 ≤ j → j ≤ length ns → r ≡ rest / getD ns (j - 1) 0 → r ≡ turns (drop (j - 1) ns) i
-    unfolding turns
-    turns-on h k e =
-        let z : j ≡ suc (j - 1) = omega arith in
-        let next : rest ≡ turns (drop (suc (j - 1)) ns) i = inv ∙ ap (λ (x : ℕ). turns (drop x ns) i) z in
-        e ∙ ap (λ (x : ℕ). x / getD ns (j - 1) 0) next ∙ sym (ap (λ (l : List ℕ). turns l i) (drop-cons ns (j - 1) 0 (omega arith)))
-
-    pub digit-end : (p : ℕ) → p < length ns → j ≡ p + 1 → r ≡ rest % getD ns p 0 → r ≡ getD (digits ns i) p 0
-    digit-end p h k e =
-        let z : j ≡ suc p = omega arith in
-        e ∙ ap (λ (x : ℕ). x % getD ns p 0) (inv ∙ ap (λ (x : ℕ). turns (drop x ns) i) z) ∙ digit-at ns i p h

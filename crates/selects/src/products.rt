@@ -7,40 +7,6 @@ ghost use lib.ListN.{length, getD};
 ghost use Rattle.selects.specs.Products.{digits};
 ghost use Rattle.selects.specs.Odometer.{atFirst, afterStep};
 
-// x / n, and 0 for n = 0.
-fn quotient(x: usize, n: u16) -> usize
-    ensures { λ r. ⌜ r ≡ x / n ⌝ }
-{
-    if n == 0 {
-        return 0;
-    }
-    x / (n as usize)
-}
-
-// x % n, and x for n = 0.
-fn remainder(x: usize, n: u16) -> usize
-    ensures { λ r. ⌜ r ≡ x % n ⌝ }
-{
-    if n == 0 {
-        return x;
-    }
-    x % (n as usize)
-}
-
-// The number, in its part, of the bin at a position of product i; `sizes` holds how many bins each part has.
-pub fn digit_of(i: usize, sizes: &[u16], position: usize) -> usize
-    requires { ⌜ position < length (now sizes) ⌝ }
-    ensures { λ r. ⌜ r ≡ getD (digits (now (sizes .entry)) i) position 0 ⌝ }
-{
-    let mut rest = i;
-    let mut j = sizes.len();
-    while position + 1 < j {
-        j -= 1;
-        rest = quotient(rest, sizes[j]);
-    }
-    remainder(rest, sizes[position])
-}
-
 // The parts of one product while all are walked: how many parts there are, how many bins each has, and which bin stands there.
 pub struct Walk {
     pub count: usize,
