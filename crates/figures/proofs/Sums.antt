@@ -3,22 +3,16 @@
 use Prim.Native.Nat.{ℕ, suc, _+_, _-_, _*_, _/_, _^_, _≤_, _<_}
 use mathlib.Core.Path.{_≡_, refl, ap, ap₂, sym, _∙_}
 use mathlib.Core.Bool.{Bool, true, false, not, cond}
-use mathlib.Core.List.{List, [], _∷_, _++_, map}
-use mathlib.Core.Option.{Option, none, some}
+use mathlib.Core.List.{List, [], _∷_, _++_}
 use native.Mathlib.Nat.{sub-zero, zero-mul, mul-le-mul-left, div-le-of-le-mul}
 use native.Mathlib.Omega.{arith}
 use native.Mathlib.Numerals.{add-one}
 use lib.Dec.{eqb}
 use borrow.Author.Tests.{eqb-true, ne-eqb}
 use Rattle.model.specs.Lists.{upFrom, keep, sumOf}
-use Rattle.model.specs.Table.{Table}
-use Rattle.model.specs.Counters.{Counter}
-use Rattle.model.specs.Figures.{Item, counts, weighted, groupOf, itemAt, itemCount, groupFigure, GroupBound}
-use Rattle.model.proofs.Readers.{All}
-use Rattle.model.proofs.Group.{group-bound, group-figure-bound}
+use Rattle.model.specs.Figures.{Item, counts, weighted, groupOf}
 use Rattle.figures.specs.Figures.{groupCase, item, weightOf, sums, itemsFrom, sumsFrom, AtMostFull, mean}
 use Rattle.figures.specs.declared.GroupFigure.{GroupFigure}
-use Rattle.figures.specs.declared.GroupFigure.the-variants.{Millionths}
 use Rattle.figures.specs.declared.Group.{Group}
 
 abbrev group : ℕ → ℕ → Group
@@ -105,19 +99,3 @@ mean-sums items = refl
 pub figure-done : (f : ℕ → Item) (n i : ℕ) (g : Group) → sums (itemsFrom f 0 n) ≡ sumsFrom g (itemsFrom f i (n - i)) → n ≤ i
     → (r : GroupFigure) → r ≡ groupCase (mean g) → r ≡ groupCase (groupOf (itemsFrom f 0 n))
 figure-done f n i g inv h r e = e ∙ ap (λ (s : Group). groupCase (mean s)) (sym (items-done f n i g _ inv h)) ∙ ap groupCase (mean-sums (itemsFrom f 0 n))
-
-pub millionths-some : (o : Option ℕ) (m : ℕ) → groupCase o ≡ Millionths m → o ≡ some m
-millionths-some none m e = let z : _≡_ {A = ℕ} 0 1 = cc in absurd (omega arith)
-millionths-some (some n) m e = cc
-
--- Whatever `Group::figure` answers at the sums of items obeys the model's bound.
-pub figure-bound : (items : List Item) → All (λ i. i .covered ≤ i .total) items → (g : Group) → g ≡ sums items
-    → (f : GroupFigure) → f ≡ groupCase (mean g) → (m : ℕ) → f ≡ Millionths m → GroupBound items m
-figure-bound items h g e f k m p =
-    group-bound items h m (sym (mean-sums items) ∙ ap mean (sym e) ∙ millionths-some (mean g) m (sym k ∙ p))
-
--- ---- the items of a table
-
-pub table-figure-bound : (t : Table) (ctrs : List Counter) (ns : List ℕ) (f : GroupFigure) → f ≡ groupCase (groupFigure t ctrs ns)
-    → (m : ℕ) → f ≡ Millionths m → GroupBound (map (itemAt t ctrs ns) (upFrom 0 (itemCount t))) m
-table-figure-bound t ctrs ns f k m p = group-figure-bound t ctrs ns m (millionths-some (groupFigure t ctrs ns) m (sym k ∙ p))

@@ -1,1 +1,5 @@
 pub mod AnswerLaws
+pub mod Steps
+pub mod Demand1
+pub mod Demand2
+pub mod Demand3

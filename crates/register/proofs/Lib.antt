@@ -4,4 +4,3 @@ pub mod SampleLaws
 pub mod CallLaws
 pub mod FigureLaws
 pub mod WordLaws
-pub mod Demand3
