@@ -1,6 +1,6 @@
 //! Time of one sample, the library against this program's direct sampler, which
-//! checks the table and the register at every call as the library does, in one
-//! run on the same words. Run with the feature `library`.
+//! checks the table and the register at every call as the library does, on the
+//! same words; both in turn, round by round. Run with the feature `library`.
 
 mod common;
 

@@ -1,5 +1,5 @@
-//! Time to measure a table, the library against this program's own check, in
-//! one run on the same bytes. Run with the feature `library`.
+//! Time to measure a table, the library against this program's own check, on the
+//! same bytes; both in turn, round by round. Run with the feature `library`.
 
 mod common;
 

@@ -239,8 +239,7 @@ fn a_small_stack() {
         illegal_places: 64 + 1,
     };
     assert_eq!(measure(&bytes), Ok(needs));
-    let words = [[0; 4].as_slice(), &[0; 32]].concat();
-    let (register, report, figures, group) = on_thread(bytes, words);
+    let (register, report, figures, group) = on_thread(bytes, vec![0; 36]);
     assert_eq!(register.len(), needs.words);
     // The last sample is the second reading after the restart: every illegal
     // sequence is raised, and the illegal cross bin.
@@ -255,4 +254,19 @@ fn a_small_stack() {
     assert_eq!(figures.len(), 16 + 8);
     assert_eq!(figures[0], Some(25.0));
     assert!(group.is_some_and(|figure| figure > 0));
+}
+
+/// Four threads at once, each on a register of its own, with one table and one
+/// sample between them: each sees what a single thread sees.
+#[test]
+fn threads_at_once() {
+    let (bytes, words) = (crossed(), [0; 36]);
+    let alone = every_call(&bytes, &words);
+    let calls = || every_call(&bytes, &words) == alone;
+    std::thread::scope(|scope| {
+        let threads: Vec<_> = (0..4).map(|_| scope.spawn(calls)).collect();
+        for thread in threads {
+            assert!(thread.join().unwrap());
+        }
+    });
 }
