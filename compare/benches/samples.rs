@@ -46,10 +46,9 @@ fn main() {
             assert_eq!(register::sample(&bytes, &mut theirs, words, &mut report), 0);
         }
         assert_eq!(ours, theirs, "{name}");
-        let calls = 400_000 / bytes.len().max(200);
         let mut report_too = report.clone();
         let times = interleaved(
-            calls,
+            samples.len(),
             |index| {
                 let words = black_box(&samples[index % samples.len()]);
                 black_box(library::sample(&bytes, &mut ours, words, &mut report));

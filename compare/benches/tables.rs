@@ -28,9 +28,8 @@ fn main() {
         let bytes = table.bytes();
         assert_eq!(library::measure(&bytes), table::measure(&bytes), "{name}");
         assert_eq!(table::measure(&bytes).number, 0, "{name}");
-        let calls = 2_000_000 / bytes.len().max(200);
         let times = interleaved(
-            calls,
+            1,
             |_| {
                 black_box(library::measure(black_box(&bytes)));
             },

@@ -78,8 +78,10 @@ pub fn largest() -> Table {
     table
 }
 
-/// How many rounds each measurement has.
-const ROUNDS: usize = 15;
+/// How many rounds each measurement has, and how long the library's part of one
+/// takes, if a single pass is not longer. Short rounds are seldom disturbed.
+const ROUNDS: usize = 50;
+const ROUND_NANOSECONDS: f64 = 2_000_000.0;
 
 /// Nanoseconds of one call by the library and by the second program, the smallest
 /// and the largest of the rounds.
@@ -88,25 +90,25 @@ pub struct Times {
     pub second: (f64, f64),
 }
 
-/// Measures both in turn: each round times `calls` calls of the library, then as
-/// many of the second program, so that whatever else the machine does meets both.
-/// The first round warms up and is not counted.
+/// Measures both in turn: each round times some passes of `pass` calls by the
+/// library, then as many by the second program, so that whatever else the machine
+/// does meets both.
 pub fn interleaved(
-    calls: usize,
+    pass: usize,
     mut library: impl FnMut(usize),
     mut second: impl FnMut(usize),
 ) -> Times {
+    // Warms up, and says how many passes make a round.
+    nanoseconds(pass, &mut second);
+    let one = nanoseconds(pass, &mut library) * pass as f64;
+    let calls = pass * (ROUND_NANOSECONDS / one).max(1.0) as usize;
     let mut times = Times {
         library: (f64::INFINITY, 0.0),
         second: (f64::INFINITY, 0.0),
     };
-    for round in 0..=ROUNDS {
-        let by_library = nanoseconds(calls, &mut library);
-        let by_second = nanoseconds(calls, &mut second);
-        if round > 0 {
-            widen(&mut times.library, by_library);
-            widen(&mut times.second, by_second);
-        }
+    for _ in 0..ROUNDS {
+        widen(&mut times.library, nanoseconds(calls, &mut library));
+        widen(&mut times.second, nanoseconds(calls, &mut second));
     }
     times
 }
