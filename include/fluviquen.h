@@ -1,30 +1,22 @@
-/* Fluviquen: a functional-coverage register whose every answer is proved.
+/* Fluviquen: a functional-coverage register whose every answer is proved. For x86-64 Linux.
  *
- * Each function returns the refusal number, 0 for acceptance. Pointers must not be null, and a table's bytes must not overlap what a
- * function writes. Nothing is kept between calls, nothing is allocated, and every call ends with an answer, whatever the bytes are.
+ * Each function returns a refusal number, 0 (FLUVIQUEN_ACCEPTED) for acceptance. Nothing is kept between calls, nothing is allocated, and
+ * every call ends with an answer, whatever the bytes and words are. docs/RULES.md has the rules, docs/TABLE.md the table's bytes.
  *
- * Refusals of a table, the first that applies:
- *   1  over 65,536 bytes
- *   2  a count or record runs past the end
- *   3  a count or field outside its allowed values
- *   4  counts, defaults, sequences, crosses or expressions that do not agree
- *   5  bytes after section ten
- *   6  over 256 places at a point, or over 1,024 products in a cross
- * Refusals of a call, after the table's own, in the order that each function gives:
- *   7  the register has fewer words than fluviquen_measure says
- *   8  a flag other than 0 or 1, or a count above the sample word
- *   9  the sample word is 4,294,967,295
- *  10  the register is stopped
- *  11  the report has fewer words than there are illegal places
- *  12  the sample's length is not 4 + 2 * points
- *  13  a value or unknown bit above its point's width
- *  14  no such place, point or item
+ * Of the caller's pointers:
+ *   - an array has as many elements as its length says; where the length is 0, the pointer may be null;
+ *   - a pointer to a single answer is never null;
+ *   - each pointer is aligned for its type;
+ *   - nothing that a function writes (register, report, answers) overlaps any other argument; what is only read may overlap;
+ *   - any number of threads may call at once if none writes what another reads or writes: each on registers, reports and answers of its own,
+ *     with tables and samples shared or not.
  *
  * A register is an array of 32-bit words that the caller lends: flag (1: running), samples, one count per place, one unknown count per
  * point, then the run words of the sequences. Words beyond those are never touched. A refused call writes nothing but the answer's 0.
  *
  * A sample is an array of 32-bit words: guard bits 0 to 31, guard bits 32 to 63, the same of unknown guard bits, then for each point its
- * value bits and its unknown bits.
+ * value bits and its unknown bits. Bits above a point's width are 0 in both, at signed points too: a negative value is given in two's
+ * complement, masked to the width (-10 at a point of 8 bits is 0xF6, and 0xFFFFFFF6 is refused).
  */
 #ifndef FLUVIQUEN_H
 #define FLUVIQUEN_H
@@ -32,16 +24,41 @@
 #include <stddef.h>
 #include <stdint.h>
 
+#define FLUVIQUEN_VERSION_MAJOR 0
+#define FLUVIQUEN_VERSION_MINOR 2
+#define FLUVIQUEN_VERSION_PATCH 0
+#define FLUVIQUEN_VERSION "0.2.0"
+
 #ifdef __cplusplus
 extern "C" {
 #endif
+
+/* The numbers that the functions return. 1 to 6 refuse a table, with the first that applies; every function tests its table before
+ * anything else. 7 to 14 refuse a call, in the order that each function gives. */
+enum fluviquen_refusal {
+    FLUVIQUEN_ACCEPTED = 0,
+    FLUVIQUEN_TABLE_TOO_LONG = 1,      /* the table is over 65,536 bytes */
+    FLUVIQUEN_TABLE_CUT = 2,           /* a count or record of the table runs past its end */
+    FLUVIQUEN_TABLE_FIELD = 3,         /* a count or field of the table is outside its allowed values */
+    FLUVIQUEN_TABLE_DISAGREES = 4,     /* counts, defaults, sequences, crosses or expressions of the table do not agree */
+    FLUVIQUEN_TABLE_LEFTOVER = 5,      /* the table has bytes after section ten */
+    FLUVIQUEN_TABLE_LIMITS = 6,        /* the table has over 256 places at a point, or over 1,024 products in a cross */
+    FLUVIQUEN_REGISTER_SHORT = 7,      /* the register is shorter than the table needs (fluviquen_measure) */
+    FLUVIQUEN_REGISTER_IMPOSSIBLE = 8, /* the register has a flag above 1, or a count above its sample word */
+    FLUVIQUEN_REGISTER_FULL = 9,       /* the register has taken 4,294,967,295 samples */
+    FLUVIQUEN_REGISTER_STOPPED = 10,   /* the register is stopped */
+    FLUVIQUEN_REPORT_SHORT = 11,       /* the report is shorter than the number of illegal places */
+    FLUVIQUEN_SAMPLE_LENGTH = 12,      /* the sample has not 4 + 2 x points words */
+    FLUVIQUEN_SAMPLE_WIDTH = 13,       /* the sample has a value or unknown bit above a point's width */
+    FLUVIQUEN_NOT_THERE = 14           /* there is no such place, point or item */
+};
 
 /* Writes how many 32-bit words a register for this table needs, and how many of its places are illegal bins, which is the length of a
  * sample's report. Both are 0 if the table is refused. */
 uint32_t fluviquen_measure(const uint8_t *table, size_t table_len, uint32_t *words, uint32_t *illegal_places);
 
-/* Writes where the records of section 1 to 10 stand in the table, without their count: `len` bytes from `table + start` on. The length is
- * 0 if the table is refused, or for another number. Returns the table's refusal number. */
+/* Writes where the records of section 1 to 10 stand in the table, without their count: `len` bytes from `table + start` on. Both are 0 if
+ * the table is refused, or for another number. Returns the table's refusal number. */
 uint32_t fluviquen_section(const uint8_t *table, size_t table_len, uint32_t number, size_t *start, size_t *len);
 
 /* Begins anew: flag 1, all else 0. Refuses with 7. */
@@ -53,8 +70,8 @@ uint32_t fluviquen_start(const uint8_t *table, size_t table_len, uint32_t *reg, 
 /* Stops a register: it takes no samples until it is started. Refuses with 7, 8. */
 uint32_t fluviquen_stop(const uint8_t *table, size_t table_len, uint32_t *reg, size_t reg_len);
 
-/* Takes a sample: every place that it raises counts 1 more, and the report has a word per illegal place, 1 where the sample raised it.
- * Report words beyond those stay. Refuses with 7, 8, 12, 13, 11, 10, 9. */
+/* Takes a sample: every place that it raises counts 1 more, and the report has a word per illegal place, 1 where the sample raised it, else
+ * 0. Report words beyond those stay. Refuses with 7, 8, 12, 13, 11, 10, 9. */
 uint32_t fluviquen_sample(const uint8_t *table, size_t table_len, uint32_t *reg, size_t reg_len,
                           const uint32_t *sample, size_t sample_len, uint32_t *report, size_t report_len);
 

@@ -1,10 +1,10 @@
 //! Time of one sample, the library against this program's direct sampler, which
-//! checks the table and the register at every call as the library does, in one
-//! run on the same words. Run with the feature `library`.
+//! checks the table and the register at every call as the library does, on the
+//! same words; both in turn, round by round. Run with the feature `library`.
 
 mod common;
 
-use common::{largest, medium, nanoseconds, small};
+use common::{heading, interleaved, largest, medium, small};
 use compare::builder::Table;
 use compare::{library, register, table};
 use std::hint::black_box;
@@ -26,7 +26,7 @@ fn samples(table: &Table) -> Vec<Vec<u32>> {
 }
 
 fn main() {
-    println!("table        words   library ns   second program ns   ratio");
+    println!("{}", heading("words"));
     for (name, drawn) in [
         ("small", small()),
         ("medium", medium()),
@@ -46,19 +46,23 @@ fn main() {
             assert_eq!(register::sample(&bytes, &mut theirs, words, &mut report), 0);
         }
         assert_eq!(ours, theirs, "{name}");
-        let calls = 400_000 / bytes.len().max(200);
-        let by_library = nanoseconds(11, calls, |index| {
-            let words = black_box(&samples[index % samples.len()]);
-            black_box(library::sample(&bytes, &mut ours, words, &mut report));
-        });
-        let by_second = nanoseconds(11, calls, |index| {
-            let words = black_box(&samples[index % samples.len()]);
-            black_box(register::sample(&bytes, &mut theirs, words, &mut report));
-        });
-        println!(
-            "{name:<10} {:>7} {by_library:>12.0} {by_second:>19.0} {:>7.2}",
-            measure.words,
-            by_library / by_second
+        let mut report_too = report.clone();
+        let times = interleaved(
+            samples.len(),
+            |index| {
+                let words = black_box(&samples[index % samples.len()]);
+                black_box(library::sample(&bytes, &mut ours, words, &mut report));
+            },
+            |index| {
+                let words = black_box(&samples[index % samples.len()]);
+                black_box(register::sample(
+                    &bytes,
+                    &mut theirs,
+                    words,
+                    &mut report_too,
+                ));
+            },
         );
+        println!("{}", times.line(name, measure.words as usize));
     }
 }

@@ -1,9 +1,9 @@
-//! Time to measure a table, the library against this program's own check, in
-//! one run on the same bytes. Run with the feature `library`.
+//! Time to measure a table, the library against this program's own check, on the
+//! same bytes; both in turn, round by round. Run with the feature `library`.
 
 mod common;
 
-use common::{largest, medium, nanoseconds, small};
+use common::{heading, interleaved, largest, medium, small};
 use compare::builder::{value, Form, Point, Range, Table, ValueBin};
 use compare::{library, table};
 use std::hint::black_box;
@@ -17,7 +17,7 @@ fn per_value() -> Table {
 }
 
 fn main() {
-    println!("table        bytes   library ns   second program ns   ratio");
+    println!("{}", heading("bytes"));
     let tables = [
         ("small", small()),
         ("medium", medium()),
@@ -28,17 +28,15 @@ fn main() {
         let bytes = table.bytes();
         assert_eq!(library::measure(&bytes), table::measure(&bytes), "{name}");
         assert_eq!(table::measure(&bytes).number, 0, "{name}");
-        let calls = 2_000_000 / bytes.len().max(200);
-        let ours = nanoseconds(15, calls, |_| {
-            black_box(library::measure(black_box(&bytes)));
-        });
-        let theirs = nanoseconds(15, calls, |_| {
-            black_box(table::measure(black_box(&bytes)));
-        });
-        println!(
-            "{name:<10} {:>7} {ours:>12.0} {theirs:>19.0} {:>7.2}",
-            bytes.len(),
-            ours / theirs
+        let times = interleaved(
+            1,
+            |_| {
+                black_box(library::measure(black_box(&bytes)));
+            },
+            |_| {
+                black_box(table::measure(black_box(&bytes)));
+            },
         );
+        println!("{}", times.line(name, bytes.len()));
     }
 }

@@ -437,9 +437,9 @@ impl Tree {
 /// Every place in order.
 fn places(table: &Table, parts: &[Vec<Part>], products: &[Vec<Product>]) -> Vec<Place> {
     let mut places = Vec::new();
-    for point in 0..table.points.len() {
+    for (point, own_parts) in parts.iter().enumerate() {
         let parts_of = |bin: Option<usize>| {
-            let all = parts[point].iter().enumerate();
+            let all = own_parts.iter().enumerate();
             let own = all.filter(move |(_, part)| part.bin == bin);
             own.map(move |(part, _)| Place::Part { point, part })
         };

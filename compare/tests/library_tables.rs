@@ -41,12 +41,12 @@ fn same(bytes: &[u8], what: &str, sections: std::ops::RangeInclusive<u32>) -> u3
 /// stops where the counts run out.
 fn section_of(bytes: &[u8], place: usize) -> usize {
     let mut at = 0;
-    for section in 1..10 {
+    for (section, size) in RECORD_SIZE.iter().enumerate().take(10).skip(1) {
         let count = match bytes.get(at..at + 2) {
             Some(count) => usize::from(count[0]) + 256 * usize::from(count[1]),
             None => return section,
         };
-        let end = at + 2 + count * RECORD_SIZE[section];
+        let end = at + 2 + count * size;
         if place < end {
             return section;
         }

@@ -6,14 +6,22 @@
 
 static const size_t POINTS = 4, SAMPLE = 4 + 2 * POINTS;
 
-static std::vector<uint8_t> table(65536);
+// One byte more than a table may have, so that a longer file is refused.
+static std::vector<uint8_t> table(65537);
 static std::vector<uint32_t> reg, report;
 static unsigned clocks;
 static FILE *entries;
 
-static void must(bool ok, const char *what, uint32_t refusal = 0) {
+static void must(bool ok, const char *what) {
     if (!ok) {
-        std::fprintf(stderr, "coverage: %s (refusal %u)\n", what, refusal);
+        std::fprintf(stderr, "coverage: %s\n", what);
+        std::exit(1);
+    }
+}
+
+static void accepted(uint32_t refusal, const char *what) {
+    if (refusal != FLUVIQUEN_ACCEPTED) {
+        std::fprintf(stderr, "coverage: %s is refused with %u\n", what, refusal);
         std::exit(1);
     }
 }
@@ -31,12 +39,10 @@ extern "C" void coverage_begin() {
     table.resize(std::fread(table.data(), 1, table.size(), file));
     std::fclose(file);
     uint32_t words, illegal;
-    uint32_t refusal = fluviquen_measure(table.data(), table.size(), &words, &illegal);
-    must(refusal == 0, "yarn.table is refused", refusal);
+    accepted(fluviquen_measure(table.data(), table.size(), &words, &illegal), "yarn.table");
     reg.resize(words);
     report.resize(illegal);
-    refusal = fluviquen_reset(table.data(), table.size(), reg.data(), reg.size());
-    must(refusal == 0, "reset", refusal);
+    accepted(fluviquen_reset(table.data(), table.size(), reg.data(), reg.size()), "the reset");
     entries = std::fopen("yarn.log", "wb");
     must(entries != nullptr, "yarn.log cannot be written");
 }
@@ -44,8 +50,12 @@ extern "C" void coverage_begin() {
 extern "C" void coverage_sample(unsigned turning, unsigned thread, unsigned unknown, unsigned speed, unsigned grade, unsigned timeout) {
     // Guard bit 0: the wheel turns.
     const uint32_t sample[SAMPLE] = {turning, 0, 0, 0, thread, unknown, speed, 0, grade, 0, timeout, 0};
-    uint32_t refusal = fluviquen_sample(table.data(), table.size(), reg.data(), reg.size(), sample, SAMPLE, report.data(), report.size());
-    must(refusal == 0, "sample", refusal);
+    accepted(fluviquen_sample(table.data(), table.size(), reg.data(), reg.size(), sample, SAMPLE, report.data(), report.size()), "a sample");
+    for (size_t i = 0; i < report.size(); i++) {
+        if (report[i] == 1) {
+            std::printf("clock %u raises illegal bin %zu\n", clocks, i);
+        }
+    }
     log_word(0);
     for (uint32_t word : sample) {
         log_word(word);
@@ -55,8 +65,8 @@ extern "C" void coverage_sample(unsigned turning, unsigned thread, unsigned unkn
 
 extern "C" void coverage_end() {
     uint32_t present, millionths;
-    uint32_t refusal = fluviquen_group_figure(table.data(), table.size(), reg.data(), reg.size(), &present, &millionths);
-    must(refusal == 0 && present == 1, "group figure", refusal);
-    std::fclose(entries);
+    accepted(fluviquen_group_figure(table.data(), table.size(), reg.data(), reg.size(), &present, &millionths), "the group figure");
+    must(present == 1, "nothing to cover");
+    must(std::fclose(entries) == 0, "yarn.log cannot be written");
     std::printf("%u clocks, group coverage %u.%06u %%\n", clocks, millionths / 1000000, millionths % 1000000);
 }

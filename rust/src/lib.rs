@@ -6,17 +6,27 @@
 //! is proved; this crate only passes slices on and gives refusals a name.
 //!
 //! ```
-//! use fluviquen::{reset, sample, item_figure, Table};
+//! use fluviquen::{item_figure, sample, Table};
 //!
-//! // One unsigned point of one bit, with auto bins for 0 and 1.
-//! let mut bytes = vec![1, 0, 1, 0, 255, 1, 0, 1, 0, 0, 0, 64, 0];
-//! bytes.extend([0; 18]);
+//! // One unsigned point of two bits (section 1), an illegal bin (2) for 3 (3).
+//! let mut bytes = vec![1, 0, 2, 0, 255, 1, 0, 1, 0, 0, 0, 64, 0];
+//! bytes.extend([1, 0, 0, 2, 0, 0, 0, 255, 1, 0]);
+//! bytes.extend([1, 0, 0, 3, 0, 0, 0, 0, 0, 0, 0, 3, 0, 0, 0, 0, 0, 0, 0]);
+//! bytes.extend([0; 14]);
 //! let table = Table::new(&bytes)?;
 //! let mut register = table.register();
 //! let mut report = table.report();
-//! // Guard bits, unknown guard bits, then the point's value and unknown bits.
-//! sample(&bytes, &mut register, &[0, 0, 0, 0, 1, 0], &mut report)?;
-//! assert_eq!(item_figure(&bytes, &register, 0)?, Some(50.0));
+//! let mut alarms = 0;
+//! for reading in [0, 3, 1] {
+//!     // Guard bits, unknown guard bits, then the point's value and unknown bits.
+//!     sample(&bytes, &mut register, &[0, 0, 0, 0, reading, 0], &mut report)?;
+//!     if report.contains(&1) {
+//!         alarms += 1; // the sample raised an illegal bin
+//!     }
+//! }
+//! assert_eq!(alarms, 1);
+//! // Auto bins 0 and 1 of 0, 1 and 2; 3 is the illegal bin's.
+//! assert_eq!(item_figure(&bytes, &register, 0)?, Some(200.0 / 3.0));
 //! # Ok::<(), fluviquen::Refusal>(())
 //! ```
 
@@ -25,32 +35,54 @@ use std::fmt;
 pub mod raw;
 mod sys;
 
-/// Why a table or a call was refused, by document 01's number, 1 to 14.
+/// Why a table or a call was refused, by document 01's number, 1 to 14. The names
+/// are those of `enum fluviquen_refusal` in include/fluviquen.h.
 #[derive(Clone, Copy, Debug, PartialEq, Eq, Hash, PartialOrd, Ord)]
 pub struct Refusal(u32);
 
 impl Refusal {
+    pub const TABLE_TOO_LONG: Refusal = Refusal(1);
+    pub const TABLE_CUT: Refusal = Refusal(2);
+    pub const TABLE_FIELD: Refusal = Refusal(3);
+    pub const TABLE_DISAGREES: Refusal = Refusal(4);
+    pub const TABLE_LEFTOVER: Refusal = Refusal(5);
+    pub const TABLE_LIMITS: Refusal = Refusal(6);
+    pub const REGISTER_SHORT: Refusal = Refusal(7);
+    pub const REGISTER_IMPOSSIBLE: Refusal = Refusal(8);
+    pub const REGISTER_FULL: Refusal = Refusal(9);
+    pub const REGISTER_STOPPED: Refusal = Refusal(10);
+    pub const REPORT_SHORT: Refusal = Refusal(11);
+    pub const SAMPLE_LENGTH: Refusal = Refusal(12);
+    pub const SAMPLE_WIDTH: Refusal = Refusal(13);
+    pub const NOT_THERE: Refusal = Refusal(14);
+
     pub fn number(self) -> u32 {
         self.0
     }
 
     /// The refusal in words.
     pub fn reason(self) -> &'static str {
-        match self.0 {
-            1 => "the table is over 65,536 bytes",
-            2 => "a count or record of the table runs past its end",
-            3 => "a count or field of the table is outside its allowed values",
-            4 => "counts, defaults, sequences, crosses or expressions of the table do not agree",
-            5 => "the table has bytes after section ten",
-            6 => "the table has over 256 places at a point, or over 1,024 products in a cross",
-            7 => "the register is shorter than the table needs",
-            8 => "the register has a flag above 1, or a count above its sample word",
-            9 => "the register has taken 4,294,967,295 samples",
-            10 => "the register is stopped",
-            11 => "the report is shorter than the number of illegal places",
-            12 => "the sample has not 4 + 2 x points words",
-            13 => "the sample has a value or unknown bit above a point's width",
-            14 => "there is no such place, point or item",
+        match self {
+            Refusal::TABLE_TOO_LONG => "the table is over 65,536 bytes",
+            Refusal::TABLE_CUT => "a count or record of the table runs past its end",
+            Refusal::TABLE_FIELD => "a count or field of the table is outside its allowed values",
+            Refusal::TABLE_DISAGREES => {
+                "counts, defaults, sequences, crosses or expressions of the table do not agree"
+            }
+            Refusal::TABLE_LEFTOVER => "the table has bytes after section ten",
+            Refusal::TABLE_LIMITS => {
+                "the table has over 256 places at a point, or over 1,024 products in a cross"
+            }
+            Refusal::REGISTER_SHORT => "the register is shorter than the table needs",
+            Refusal::REGISTER_IMPOSSIBLE => {
+                "the register has a flag above 1, or a count above its sample word"
+            }
+            Refusal::REGISTER_FULL => "the register has taken 4,294,967,295 samples",
+            Refusal::REGISTER_STOPPED => "the register is stopped",
+            Refusal::REPORT_SHORT => "the report is shorter than the number of illegal places",
+            Refusal::SAMPLE_LENGTH => "the sample has not 4 + 2 x points words",
+            Refusal::SAMPLE_WIDTH => "the sample has a value or unknown bit above a point's width",
+            Refusal::NOT_THERE => "there is no such place, point or item",
             _ => "refused",
         }
     }
@@ -145,8 +177,9 @@ pub fn stop(table: &[u8], register: &mut [u32]) -> Result<(), Refusal> {
 }
 
 /// Takes a sample: guard bits (two words), unknown guard bits (two words), then
-/// each point's value and unknown bits. The report has 1 at each illegal place
-/// that the sample raised.
+/// each point's value and unknown bits, a negative value in two's complement and
+/// masked to the point's width. The report has 1 at each illegal place that the
+/// sample raised, and 0 at the others.
 pub fn sample(
     table: &[u8],
     register: &mut [u32],

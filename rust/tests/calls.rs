@@ -71,21 +71,202 @@ fn refusals() {
     assert_eq!(refusal.to_string(), said);
 }
 
-/// Every call, on a thread with 128 KB of stack.
+/// The numbers and names of the C header are those of this crate.
+#[test]
+fn names_of_the_header() {
+    let names = [
+        ("TABLE_TOO_LONG", Refusal::TABLE_TOO_LONG),
+        ("TABLE_CUT", Refusal::TABLE_CUT),
+        ("TABLE_FIELD", Refusal::TABLE_FIELD),
+        ("TABLE_DISAGREES", Refusal::TABLE_DISAGREES),
+        ("TABLE_LEFTOVER", Refusal::TABLE_LEFTOVER),
+        ("TABLE_LIMITS", Refusal::TABLE_LIMITS),
+        ("REGISTER_SHORT", Refusal::REGISTER_SHORT),
+        ("REGISTER_IMPOSSIBLE", Refusal::REGISTER_IMPOSSIBLE),
+        ("REGISTER_FULL", Refusal::REGISTER_FULL),
+        ("REGISTER_STOPPED", Refusal::REGISTER_STOPPED),
+        ("REPORT_SHORT", Refusal::REPORT_SHORT),
+        ("SAMPLE_LENGTH", Refusal::SAMPLE_LENGTH),
+        ("SAMPLE_WIDTH", Refusal::SAMPLE_WIDTH),
+        ("NOT_THERE", Refusal::NOT_THERE),
+    ];
+    let header = include_str!("../../include/fluviquen.h");
+    let (_, after) = header.split_once("enum fluviquen_refusal {").unwrap();
+    let (body, _) = after.split_once("};").unwrap();
+    let lines: Vec<&str> = body.lines().map(str::trim).collect();
+    let lines: Vec<&str> = lines.into_iter().filter(|line| !line.is_empty()).collect();
+    assert_eq!(lines[0], "FLUVIQUEN_ACCEPTED = 0,");
+    assert_eq!(lines.len(), 1 + names.len());
+    for ((name, refusal), line) in names.iter().zip(&lines[1..]) {
+        let (code, comment) = line.split_once("/*").unwrap();
+        let expected = format!("FLUVIQUEN_{name} = {}", refusal.number());
+        assert_eq!(code.trim().trim_end_matches(','), expected);
+        let said = comment.trim_end_matches("*/").trim();
+        assert!(said.starts_with(refusal.reason()), "{said}");
+    }
+    let version = format!(
+        "#define FLUVIQUEN_VERSION \"{}\"",
+        env!("CARGO_PKG_VERSION")
+    );
+    assert!(header.lines().any(|line| line == version));
+    let parts = [
+        ("MAJOR", env!("CARGO_PKG_VERSION_MAJOR")),
+        ("MINOR", env!("CARGO_PKG_VERSION_MINOR")),
+        ("PATCH", env!("CARGO_PKG_VERSION_PATCH")),
+    ];
+    for (part, number) in parts {
+        let defined = format!("#define FLUVIQUEN_VERSION_{part} {number}");
+        assert!(header.lines().any(|line| line == defined), "{part}");
+    }
+}
+
+/// 16 points: four with 4, 4, 8 and 8 auto bins, twelve with 256. An illegal
+/// transition bin for each of 64 sequences of 32 readings. Eight crosses of the
+/// first four points, 1,024 products each, with four cross bins of 32 tokens (the
+/// last of all illegal): the deepest expressions, of `intersect` leaves, nested to
+/// the left and to the right.
+fn crossed() -> Vec<u8> {
+    let mut bytes = Vec::new();
+    let count = |bytes: &mut Vec<u8>, n: u16| bytes.extend(n.to_le_bytes());
+    let fields = |bytes: &mut Vec<u8>, a: i64, b: i64| {
+        bytes.extend(a.to_le_bytes());
+        bytes.extend(b.to_le_bytes());
+    };
+    count(&mut bytes, 16);
+    for point in 0..16 {
+        let auto_max: u16 = [4, 4, 8, 8].get(point).copied().unwrap_or(256);
+        bytes.extend([8, 0, 255, 1, 0, 1, 0, 0, 0]);
+        count(&mut bytes, auto_max);
+    }
+    count(&mut bytes, 0);
+    count(&mut bytes, 0);
+    // Bins, sequences, steps and their ranges: 0 to 255, 32 times in a row.
+    count(&mut bytes, 64);
+    for bin in 0..64 {
+        bytes.extend([bin % 4, 2, 255, 1]);
+    }
+    count(&mut bytes, 64);
+    bytes.extend([1; 64]);
+    count(&mut bytes, 64);
+    for _ in 0..64 {
+        bytes.extend([1, 2, 32]);
+    }
+    count(&mut bytes, 64);
+    for _ in 0..64 {
+        bytes.push(0);
+        fields(&mut bytes, 0, 255);
+    }
+    count(&mut bytes, 8);
+    for _ in 0..8 {
+        bytes.extend([4, 0, 1, 2, 3, 255, 1, 0, 1, 0, 0, 0, 4]);
+    }
+    count(&mut bytes, 32);
+    for bin in 0..32 {
+        bytes.extend([if bin == 31 { 2 } else { 0 }, 255, 32]);
+    }
+    count(&mut bytes, 1024);
+    let operator = |bytes: &mut Vec<u8>, op: u8| {
+        bytes.extend([op, 0, 0, 0]);
+        fields(bytes, 0, 0);
+    };
+    let leaf = |bytes: &mut Vec<u8>, position: u8, lo: i64, hi: i64| {
+        bytes.extend([2, position, 0, 0]);
+        fields(bytes, lo, hi);
+    };
+    for bin in 0..32 {
+        let op = if bin % 2 == 0 { 4 } else { 5 };
+        for nth in 0..15 {
+            operator(&mut bytes, op);
+            if bin % 4 < 2 {
+                leaf(&mut bytes, nth % 4, 0, 63);
+            }
+        }
+        if bin % 4 >= 2 {
+            for nth in 0..15 {
+                leaf(&mut bytes, nth % 4, 0, 63);
+            }
+        }
+        operator(&mut bytes, 3);
+        leaf(&mut bytes, 3, 64, 255);
+    }
+    bytes
+}
+
+/// Every call on the table, a few samples of the same words among them; the
+/// register, the last report, and the figures.
+type Seen = (Vec<u32>, Vec<u32>, Vec<Option<f64>>, Option<u32>);
+
+fn every_call(bytes: &[u8], words: &[u32]) -> Seen {
+    let table = Table::new(bytes).unwrap();
+    let mut register = table.register();
+    let mut report = table.report();
+    for _ in 0..2 {
+        sample(bytes, &mut register, words, &mut report).unwrap();
+    }
+    stop(bytes, &mut register).unwrap();
+    start(bytes, &mut register).unwrap();
+    sample(bytes, &mut register, words, &mut report).unwrap();
+    sample(bytes, &mut register, words, &mut report).unwrap();
+    for number in 1..=10 {
+        section(bytes, number).unwrap();
+    }
+    assert_eq!(place_count(bytes, &register, 0), Ok(register[2]));
+    unknown_count(bytes, &register, 0).unwrap();
+    let items = (0..).map_while(|item| item_figure(bytes, &register, item).ok());
+    let figures = items.collect();
+    let group = group_figure(bytes, &register).unwrap();
+    (register, report, figures, group)
+}
+
+/// Every call on a thread with 128 KB of stack, on the smallest table and on
+/// one with the largest crosses and expressions.
 #[test]
 fn a_small_stack() {
-    let calls = || {
-        let bytes = smallest();
-        let table = Table::new(&bytes).unwrap();
-        let mut register = table.register();
-        sample(&bytes, &mut register, &ONE, &mut table.report()).unwrap();
-        stop(&bytes, &mut register).unwrap();
-        start(&bytes, &mut register).unwrap();
-        place_count(&bytes, &register, 1).unwrap();
-        unknown_count(&bytes, &register, 0).unwrap();
-        assert_eq!(item_figure(&bytes, &register, 0), Ok(Some(50.0)));
-        assert_eq!(group_figure(&bytes, &register), Ok(Some(50_000_000)));
+    let on_thread = |bytes: Vec<u8>, words: Vec<u32>| {
+        let thread = std::thread::Builder::new().stack_size(128 * 1024);
+        let calls = move || every_call(&bytes, &words);
+        thread.spawn(calls).unwrap().join().unwrap()
     };
-    let thread = std::thread::Builder::new().stack_size(128 * 1024);
-    thread.spawn(calls).unwrap().join().unwrap();
+    let (register, report, figures, group) = on_thread(smallest(), ONE.to_vec());
+    assert_eq!(register, [1, 4, 0, 4, 0]);
+    assert_eq!((report, figures), (vec![], vec![Some(50.0)]));
+    assert_eq!(group, Some(50_000_000));
+
+    let bytes = crossed();
+    let places = (24 + 64 + 12 * 256) + 8 * (4 + 1024);
+    let needs = Measure {
+        words: 2 + places + 16 + 64 * 32,
+        illegal_places: 64 + 1,
+    };
+    assert_eq!(measure(&bytes), Ok(needs));
+    let (register, report, figures, group) = on_thread(bytes, vec![0; 36]);
+    assert_eq!(register.len(), needs.words);
+    // The last sample is the second reading after the restart: every illegal
+    // sequence is raised, and the illegal cross bin.
+    assert_eq!(report, vec![1; 65]);
+    // Value 0 lies in the first bin of each point; the product of these is selected.
+    // In the last cross the illegal bin takes it from the cover bins.
+    let counts = &register[2..2 + places];
+    assert_eq!((counts[0], counts[4]), (4, 2));
+    let (first, last) = (24 + 64 + 12 * 256, places - 1028);
+    assert_eq!(counts[first..first + 5], [4, 4, 4, 4, 0]);
+    assert_eq!(counts[last..last + 5], [0, 0, 0, 4, 0]);
+    assert_eq!(figures.len(), 16 + 8);
+    assert_eq!(figures[0], Some(25.0));
+    assert!(group.is_some_and(|figure| figure > 0));
+}
+
+/// Four threads at once, each on a register of its own, with one table and one
+/// sample between them: each sees what a single thread sees.
+#[test]
+fn threads_at_once() {
+    let (bytes, words) = (crossed(), [0; 36]);
+    let alone = every_call(&bytes, &words);
+    let calls = || every_call(&bytes, &words) == alone;
+    std::thread::scope(|scope| {
+        let threads: Vec<_> = (0..4).map(|_| scope.spawn(calls)).collect();
+        for thread in threads {
+            assert!(thread.join().unwrap());
+        }
+    });
 }

@@ -78,17 +78,69 @@ pub fn largest() -> Table {
     table
 }
 
-/// The median nanoseconds of one call over some rounds.
-pub fn nanoseconds(rounds: usize, calls: usize, mut call: impl FnMut(usize)) -> f64 {
-    let mut times: Vec<f64> = (0..rounds)
-        .map(|_| {
-            let start = Instant::now();
-            for index in 0..calls {
-                call(index);
-            }
-            start.elapsed().as_nanos() as f64 / calls as f64
-        })
-        .collect();
-    times.sort_by(f64::total_cmp);
-    times[rounds / 2]
+/// How many rounds each measurement has, and how long the library's part of one
+/// takes, if a single pass is not longer. Short rounds are seldom disturbed.
+const ROUNDS: usize = 50;
+const ROUND_NANOSECONDS: f64 = 2_000_000.0;
+
+/// Nanoseconds of one call by the library and by the second program, the smallest
+/// and the largest of the rounds.
+pub struct Times {
+    pub library: (f64, f64),
+    pub second: (f64, f64),
+}
+
+/// Measures both in turn: each round times some passes of `pass` calls by the
+/// library, then as many by the second program, so that whatever else the machine
+/// does meets both.
+pub fn interleaved(
+    pass: usize,
+    mut library: impl FnMut(usize),
+    mut second: impl FnMut(usize),
+) -> Times {
+    // Warms up, and says how many passes make a round.
+    nanoseconds(pass, &mut second);
+    let one = nanoseconds(pass, &mut library) * pass as f64;
+    let calls = pass * (ROUND_NANOSECONDS / one).max(1.0) as usize;
+    let mut times = Times {
+        library: (f64::INFINITY, 0.0),
+        second: (f64::INFINITY, 0.0),
+    };
+    for _ in 0..ROUNDS {
+        widen(&mut times.library, nanoseconds(calls, &mut library));
+        widen(&mut times.second, nanoseconds(calls, &mut second));
+    }
+    times
+}
+
+fn nanoseconds(calls: usize, call: &mut impl FnMut(usize)) -> f64 {
+    let start = Instant::now();
+    for index in 0..calls {
+        call(index);
+    }
+    start.elapsed().as_nanos() as f64 / calls as f64
+}
+
+fn widen((smallest, largest): &mut (f64, f64), time: f64) {
+    *smallest = smallest.min(time);
+    *largest = largest.max(time);
+}
+
+/// What the lines of [`Times::line`] have; `size` is what stands after the name.
+pub fn heading(size: &str) -> String {
+    format!(
+        "Nanoseconds of one call: the smallest and the largest of {ROUNDS} rounds, in each of which both programs ran in turn.\n\
+         The ratio is that of the smallest.\n\
+         {:<10} {size:>7} {:>24} {:>24} {:>7}",
+        "table", "library", "second program", "ratio"
+    )
+}
+
+impl Times {
+    pub fn line(&self, name: &str, size: usize) -> String {
+        let range = |(smallest, largest): (f64, f64)| format!("{smallest:.0} .. {largest:.0}");
+        let ratio = self.library.0 / self.second.0;
+        let (library, second) = (range(self.library), range(self.second));
+        format!("{name:<10} {size:>7} {library:>24} {second:>24} {ratio:>7.2}")
+    }
 }
