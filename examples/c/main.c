@@ -54,7 +54,7 @@ int main(void) {
         must("sample", fluviquen_sample(table, sizeof table, reg, words, sample, 6, report, illegal));
         for (uint32_t i = 0; i < illegal; i++) {
             if (report[i] == 1) {
-                printf("clock %d raises illegal place %u\n", clock, i);
+                printf("clock %d raises illegal bin %u of the report\n", clock, i);
             }
         }
     }
