@@ -13,7 +13,7 @@ use Rattle.model.specs.Figures.{covered, figureOf, groupFigure, groupOf,
 use Rattle.model.specs.Format.{_>>=_, accepted, allDifferent, binRules, coverBinOf, decode, each, expressions, patternTests, rangeRules, readBinHeads, readBinRanges, readBinSection, readBinSteps, readCross, readCrossBin, readCrossBinSection, readCrossBins, readCrossSection, readCrosses, readPoint, readPointSection, readRange, readRangeSection, readRecord, readSelect, readSelects, readSequence, readSequenceSection, readSequences, readStep, readStepRangeSection, readStepRanges, readStepSection, readSteps, readTable, readToken, readTokenSection, readTransition, readTransitionBins, readTransitionRanges, readTransitionSection, tableOf, tested, times, tokenRules, u16, u32, u64, valueTests}
 use Rattle.model.specs.Register.{Call, accept, allLengths, binLengths, call, callTests, consistent, countsOf, illegalTotal, inWidths, measure, nextRuns, onTable, reportWords, reset, restarted, runsOf, sample, sampledReport, sampledWords, sequences, start, stop, unknownsOf, wordsNeeded}
 use Rattle.model.specs.Reference.{counterValue, counterValues, history, matches, newReference, referenceAfter, referenceAfterCalls, referenceResponse, referenceStep, referenceTests, referenceWords, registerAfter, runWord, runWords, samplesIn, traceStretches, unknownCount, unknownCounts}
-use Rattle.model.specs.Build.{binOf, empty, le, patternOf, pointOf, spanOf, stepOf, transitionOf}
+use Rattle.model.specs.Build.{binOf, empty, guardedOf, le, patternOf, pointOf, spanOf, stepOf, transitionOf}
 
 -- ---- tables of one point: unsigned, 8 bits, guard bit 0
 
@@ -33,9 +33,9 @@ only v = spanOf v v
 read : ℕ → Call
 read v = sample (1 ∷ 0 ∷ 0 ∷ 0 ∷ v ∷ 0 ∷ []) []
 
--- with unknown bits
+-- with these value bits, and bit 0 unknown
 unread : ℕ → Call
-unread bits = sample (1 ∷ 0 ∷ 0 ∷ 0 ∷ 0 ∷ bits ∷ []) []
+unread v = sample (1 ∷ 0 ∷ 0 ∷ 0 ∷ v ∷ 1 ∷ []) []
 
 -- with the guard false
 missed : ℕ → Call
@@ -91,9 +91,13 @@ cases =
     ∷ case tenIn3 (readings (4 ∷ 5 ∷ 6 ∷ [])) (0 ∷ 3 ∷ 0 ∷ []) 3
     ∷ case tenIn3 (readings (7 ∷ 8 ∷ 9 ∷ 10 ∷ [])) (0 ∷ 0 ∷ 4 ∷ []) 3
     -- 1:10, 1, 4, 7 in 4: 1-3, 4-6, 7-9, and 10 with 1, 4, 7
+    ∷ case tenTwiceIn4 (readings (1 ∷ [])) (1 ∷ 0 ∷ 0 ∷ 1 ∷ []) 4
+    ∷ case tenTwiceIn4 (readings (4 ∷ [])) (0 ∷ 1 ∷ 0 ∷ 1 ∷ []) 4
+    ∷ case tenTwiceIn4 (readings (7 ∷ [])) (0 ∷ 0 ∷ 1 ∷ 1 ∷ []) 4
+    ∷ case tenTwiceIn4 (readings (10 ∷ [])) (0 ∷ 0 ∷ 0 ∷ 1 ∷ []) 4
     ∷ case tenTwiceIn4 (readings (2 ∷ 3 ∷ [])) (2 ∷ 0 ∷ 0 ∷ 0 ∷ []) 4
-    ∷ case tenTwiceIn4 (readings (5 ∷ 6 ∷ 8 ∷ 9 ∷ [])) (0 ∷ 2 ∷ 2 ∷ 0 ∷ []) 4
-    ∷ case tenTwiceIn4 (readings (1 ∷ 4 ∷ 7 ∷ 10 ∷ [])) (1 ∷ 1 ∷ 1 ∷ 4 ∷ []) 4
+    ∷ case tenTwiceIn4 (readings (5 ∷ 6 ∷ [])) (0 ∷ 2 ∷ 0 ∷ 0 ∷ []) 4
+    ∷ case tenTwiceIn4 (readings (8 ∷ 9 ∷ [])) (0 ∷ 0 ∷ 2 ∷ 0 ∷ []) 4
     -- 2 values in 3 bins: the third is empty
     ∷ case twoIn3 (readings (0 ∷ 1 ∷ 2 ∷ 3 ∷ [])) (1 ∷ 1 ∷ 0 ∷ []) 2
     -- 10=>20=>30
@@ -102,8 +106,8 @@ cases =
     -- 3[*2:3]; with 3=>3 ignored
     ∷ case threes (readings (3 ∷ 3 ∷ 3 ∷ [])) (2 ∷ []) 1
     ∷ case threesIgnored (readings (3 ∷ 3 ∷ 3 ∷ [])) (1 ∷ []) 1
-    -- 10=>20, with an unknown reading, a false guard, a restart between
-    ∷ case up12 (read 10 ∷ unread 1 ∷ read 20 ∷ []) (0 ∷ []) 1
+    -- 10=>20, with an unknown reading whose value bits are 10, a false guard, a restart between
+    ∷ case up12 (read 10 ∷ unread 10 ∷ read 20 ∷ []) (0 ∷ []) 1
     ∷ case up12 (read 10 ∷ missed 0 ∷ read 20 ∷ []) (1 ∷ []) 1
     ∷ case up12 (read 10 ∷ stop ∷ start ∷ read 20 ∷ []) (0 ∷ []) 1
     -- 11?? holds 12 to 15 and not 11
@@ -131,5 +135,5 @@ passes c =
     accepted (c .bytes) && same (countsOf t w) (c .counts) && same w (referenceWords t ref ++ 7 ∷ []) && eqb (total t 0 (counters t)) (c .total)
 
 pub cases-hold : T (all passes cases)
-unfolding tenIn3 tenTwiceIn4 twoIn3 patternBin ignoring up123 up12 threes threesIgnored case cases same passes ofValues ofTransitions only read unread missed readings patternOf le empty pointOf binOf spanOf transitionOf stepOf registerAfter upFrom any all keep count sumOf concatOf oneOf pairUp orAll bitsFrom firstFailed values inRanges distinctValues listedValues portion inBin excludedValue listedValue distributed holds meets hasValue hasAuto valueCounters transitionCounters pointCounters coverBins tuples crossParts products productOf crossBinCounters crossCounters counters selects withinLimits guardTrue reading blockSizes nextSteps matchedLengths excludedMatch coverHit productHit hits inTotal itemOf total covered figureOf groupOf itemFigure groupFigure tested _>>=_ times each readRecord readPoint readBinHeads readRange readBinRanges readTransition readSequence readSequences readStep readSteps readBinSteps readStepRanges readTransitionRanges allDifferent readCross readCrossBin readCrossBins readToken expressions readSelect readSelects u16 u32 u64 valueTests patternTests rangeRules binRules coverBinOf tokenRules readPointSection readBinSection readRangeSection readTransitionSection readSequenceSection readStepSection readStepRangeSection readCrossSection readCrossBinSection readTokenSection readTransitionBins readCrosses readTable decode sequences wordsNeeded illegalTotal countsOf unknownsOf runsOf nextRuns binLengths allLengths sampledWords reportWords sampledReport consistent inWidths callTests restarted accept onTable call measure samplesIn history matches traceStretches runWord runWords counterValue unknownCount counterValues unknownCounts referenceWords referenceTests referenceAfter referenceResponse referenceStep referenceAfterCalls accepted tableOf
+unfolding tenIn3 tenTwiceIn4 twoIn3 patternBin ignoring up123 up12 threes threesIgnored case cases same passes ofValues ofTransitions only read unread missed readings patternOf le empty pointOf guardedOf binOf spanOf transitionOf stepOf registerAfter upFrom any all keep count sumOf concatOf oneOf pairUp orAll bitsFrom firstFailed values inRanges distinctValues listedValues portion inBin excludedValue listedValue distributed holds meets hasValue hasAuto valueCounters transitionCounters pointCounters coverBins tuples crossParts products productOf crossBinCounters crossCounters counters selects withinLimits guardTrue reading blockSizes nextSteps matchedLengths excludedMatch coverHit productHit hits inTotal itemOf total covered figureOf groupOf itemFigure groupFigure tested _>>=_ times each readRecord readPoint readBinHeads readRange readBinRanges readTransition readSequence readSequences readStep readSteps readBinSteps readStepRanges readTransitionRanges allDifferent readCross readCrossBin readCrossBins readToken expressions readSelect readSelects u16 u32 u64 valueTests patternTests rangeRules binRules coverBinOf tokenRules readPointSection readBinSection readRangeSection readTransitionSection readSequenceSection readStepSection readStepRangeSection readCrossSection readCrossBinSection readTokenSection readTransitionBins readCrosses readTable decode sequences wordsNeeded illegalTotal countsOf unknownsOf runsOf nextRuns binLengths allLengths sampledWords reportWords sampledReport consistent inWidths callTests restarted accept onTable call measure samplesIn history matches traceStretches runWord runWords counterValue unknownCount counterValues unknownCounts referenceWords referenceTests referenceAfter referenceResponse referenceStep referenceAfterCalls accepted tableOf
 cases-hold = tt

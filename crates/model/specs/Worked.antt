@@ -1,4 +1,4 @@
--- Document 01's readings that are not marked, on the table's bytes; faults and their places; and some bins at 32 bits.
+-- Document 01's readings that are not marked, on the table's bytes; a bin of each kind and form; faults and their places; and some bins at 32 bits.
 -- Assumes nothing.
 use Prim.Native.Nat.{ℕ, _+_}
 use mathlib.Core.Path.{_≡_, refl}
@@ -18,7 +18,7 @@ use Rattle.model.specs.Sampling.{guardTrue, reading, blockSizes, nextSte
 use Rattle.model.specs.Figures.{inTotal, itemOf, total, covered, figureOf, groupOf, itemFigure, groupFigure}
 use Rattle.model.specs.Format.{FaultClass, tooLong, cut, value, unused, field, disagreement, leftover, limits, Outcome, rejected, tested, _>>=_, times, each, readRecord, readPoint, readBinHeads, readRange, readBinRanges, readTransition, readSequence, readSequences, readStep, readSteps, readBinSteps, readStepRanges, readTransitionRanges, allDifferent, readCross, readCrossBin, readCrossBins, readToken, expressions, readSelect, readSelects, u16, u32, u64, valueTests, patternTests, rangeRules, binRules, coverBinOf, tokenRules, readPointSection, readBinSection, readRangeSection, readTransitionSection, readSequenceSection, readStepSection, readStepRangeSection, readCrossSection, readCrossBinSection, readTokenSection, readTransitionBins, readCrosses, readTable, decode, sectionFrom}
 use Rattle.model.specs.Reference.{registerAfter}
-use Rattle.model.specs.Build.{le, empty, pointOf, binOf, spanOf, transitionOf, stepOf, crossOf, crossBinOf, tokenOf}
+use Rattle.model.specs.Build.{le, empty, pointOf, signedOf, guardedOf, binOf, spanOf, below0, transitionOf, stepOf, crossOf, crossBinOf, tokenOf}
 use Rattle.model.specs.Register.{Call, reset, start, stop, sample, askCounter, askItem, askGroup, percent, millionths, sequences, wordsNeeded, illegalTotal, countsOf, unknownsOf, runsOf, nextRuns, binLengths, allLengths, sampledWords, reportWords, sampledReport, consistent, inWidths, callTests, restarted, accept, onTable, call, measure, section}
 
 -- ---- tables
@@ -74,6 +74,30 @@ twoDefaults = le 2 1 ++ point 1 1 64 ++ le 2 2 ++ bin 0 3 0 ++ bin 0 3 0 ++ empt
 dealtFirst : List ℕ
 dealtFirst = le 2 1 ++ point 2 1 2 ++ le 2 1 ++ bin 0 1 1 ++ le 2 1 ++ spanOf 0 1 ++ empty 7
 
+-- a signed point of 8 bits: bins −128, −10 and 0 to 127
+signedBins : List ℕ
+signedBins =
+    le 2 1 ++ signedOf 8
+    ++ le 2 3 ++ bin 0 0 1 ++ bin 0 0 1 ++ bin 0 0 1
+    ++ le 2 3 ++ spanOf (below0 128) (below0 128) ++ spanOf (below0 10) (below0 10) ++ spanOf 0 127
+    ++ empty 7
+
+-- a cover bin 0 to 3, an illegal bin 2
+illegalBin : List ℕ
+illegalBin = le 2 1 ++ point 3 1 64 ++ le 2 2 ++ bin 0 0 1 ++ bin 0 2 1 ++ le 2 2 ++ spanOf 0 3 ++ spanOf 2 2 ++ empty 7
+
+-- a cover bin 1, an ignore bin 2, a default bin
+defaultBin : List ℕ
+defaultBin = le 2 1 ++ point 3 1 64 ++ le 2 3 ++ bin 0 0 1 ++ bin 0 1 1 ++ bin 0 3 0 ++ le 2 2 ++ spanOf 1 1 ++ spanOf 2 2 ++ empty 7
+
+-- one bin per value of 6, 2 to 3 and 3: bins 2, 3 and 6
+perValueBins : List ℕ
+perValueBins = le 2 1 ++ point 3 1 64 ++ le 2 1 ++ binOf 0 0 1 0 3 ++ le 2 3 ++ spanOf 6 6 ++ spanOf 2 3 ++ spanOf 3 3 ++ empty 7
+
+-- a bin 1 with guard bit 5, a bin 1 with none
+guardedBin : List ℕ
+guardedBin = le 2 1 ++ point 3 1 64 ++ le 2 2 ++ guardedOf 5 0 0 0 0 1 ++ bin 0 0 1 ++ le 2 2 ++ spanOf 1 1 ++ spanOf 1 1 ++ empty 7
+
 -- a bin with one span
 oneSpan : ℕ → ℕ → List ℕ
 oneSpan a b = le 2 1 ++ point 3 1 64 ++ le 2 1 ++ bin 0 0 1 ++ le 2 1 ++ spanOf a b ++ empty 7
@@ -99,6 +123,14 @@ after = registerAfter
 read : ℕ → ℕ → Call
 read v unknowns = sample (0 ∷ 0 ∷ 0 ∷ 0 ∷ v ∷ unknowns ∷ []) []
 
+-- with guard bits, and unknown ones
+guarded : ℕ → ℕ → ℕ → Call
+guarded bits unknowns v = sample (bits ∷ 0 ∷ unknowns ∷ 0 ∷ v ∷ 0 ∷ []) []
+
+-- with a report of two words before
+reported : ℕ → Call
+reported v = sample (0 ∷ 0 ∷ 0 ∷ 0 ∷ v ∷ 0 ∷ []) (7 ∷ 7 ∷ [])
+
 pair : ℕ → ℕ → Call
 pair v w = sample (0 ∷ 0 ∷ 0 ∷ 0 ∷ v ∷ 0 ∷ w ∷ 0 ∷ []) []
 
@@ -119,6 +151,22 @@ record Worked : Type 0 where
   -- values are dealt to the bins before ignored ones leave: 2 and 3 are both the second bin's
   dealt : after dealtFirst (replicate 5 0) (reset ∷ read 2 0 ∷ read 3 0 ∷ read 0 0 ∷ []) ≡ 1 ∷ 3 ∷ 0 ∷ 2 ∷ 0 ∷ []
   dealtFigure : call dealtFirst (1 ∷ 3 ∷ 0 ∷ 2 ∷ 0 ∷ []) (askItem 0) .response .answer ≡ percent (some (fin false 25 (pos 2)))
+  -- F6 hex is −10, 80 hex is −128
+  signedTen : after signedBins (replicate 6 0) (reset ∷ read 0xF6 0 ∷ []) ≡ 1 ∷ 1 ∷ 0 ∷ 1 ∷ 0 ∷ 0 ∷ []
+  signedLowest : after signedBins (replicate 6 0) (reset ∷ read 0x80 0 ∷ []) ≡ 1 ∷ 1 ∷ 1 ∷ 0 ∷ 0 ∷ 0 ∷ []
+  signedHighest : after signedBins (replicate 6 0) (reset ∷ read 0x7F 0 ∷ read 0 0 ∷ []) ≡ 1 ∷ 2 ∷ 0 ∷ 0 ∷ 2 ∷ 0 ∷ []
+  -- an illegal value is its own bin's and no other's, and the report's word for that bin is 1; words beyond stay
+  illegalWords : after illegalBin (replicate 5 0) (reset ∷ reported 1 ∷ reported 5 ∷ reported 2 ∷ []) ≡ 1 ∷ 3 ∷ 1 ∷ 1 ∷ 0 ∷ []
+  illegalReport : call illegalBin (1 ∷ 0 ∷ 0 ∷ 0 ∷ 0 ∷ []) (reported 2) .response .report ≡ 1 ∷ 7 ∷ []
+  legalReport : call illegalBin (1 ∷ 0 ∷ 0 ∷ 0 ∷ 0 ∷ []) (reported 1) .response .report ≡ 0 ∷ 7 ∷ []
+  noReport : call illegalBin (1 ∷ 0 ∷ 0 ∷ 0 ∷ 0 ∷ []) (read 2 0) .response .number ≡ 11
+  -- a default bin has what no bin lists, an ignore bin neither: 3, and not 1, 2 or an unknown reading
+  defaultWords : after defaultBin (replicate 5 0) (reset ∷ read 1 0 ∷ read 2 0 ∷ read 3 0 ∷ read 3 1 ∷ []) ≡ 1 ∷ 4 ∷ 1 ∷ 1 ∷ 1 ∷ []
+  perValueWords : after perValueBins (replicate 6 0) (reset ∷ read 3 0 ∷ read 6 0 ∷ read 3 0 ∷ read 4 0 ∷ []) ≡ 1 ∷ 4 ∷ 0 ∷ 2 ∷ 1 ∷ 0 ∷ []
+  -- a bin's guard: false, true, unknown
+  guardIsFalse : after guardedBin (replicate 5 0) (reset ∷ guarded 0 0 1 ∷ []) ≡ 1 ∷ 1 ∷ 0 ∷ 1 ∷ 0 ∷ []
+  guardIsTrue : after guardedBin (replicate 5 0) (reset ∷ guarded 32 0 1 ∷ []) ≡ 1 ∷ 1 ∷ 1 ∷ 1 ∷ 0 ∷ []
+  guardIsUnknown : after guardedBin (replicate 5 0) (reset ∷ guarded 32 32 1 ∷ []) ≡ 1 ∷ 1 ∷ 0 ∷ 1 ∷ 0 ∷ []
   most32 : measure (stepsUpTo 16) .number ≡ 0
   most33 : measure (stepsUpTo 17) .number ≡ 4
   lastSample : call thirtyOne (1 ∷ 4_294_967_294 ∷ 0 ∷ 0 ∷ 0 ∷ []) (read 0 0) .words ≡ 1 ∷ 4_294_967_295 ∷ 1 ∷ 0 ∷ 0 ∷ []
@@ -151,7 +199,7 @@ record Worked : Type 0 where
   noneLeft : hasValueIn (widePattern 0xAAAA_AAAA) (listed 0 0) ≡ false
 
 worked : Worked
-unfolding le empty pointOf binOf spanOf transitionOf stepOf crossOf crossBinOf tokenOf point bin thirtyOne twoWeights crossed stepsUpTo manyProducts twoDefaults dealtFirst oneSpan widePattern after registerAfter read pair fault upFrom any all keep count sumOf concatOf oneOf pairUp orAll bitsFrom firstFailed values inRanges distinctValues listedValues portion inBin excludedValue listedValue distributed holds meets hasValue hasAuto valueCounters transitionCounters pointCounters coverBins tuples crossParts products productOf crossBinCounters crossCounters counters selects withinLimits patternFrom nextIn ascending coverRanges rangesOf excludedRanges holdsIn candidates meetsIn hasValueIn guardTrue reading blockSizes nextSteps matchedLengths excludedMatch coverHit productHit hits inTotal itemOf total covered figureOf groupOf itemFigure groupFigure tested _>>=_ times each readRecord readPoint readBinHeads readRange readBinRanges readTransition readSequence readSequences readStep readSteps readBinSteps readStepRanges readTransitionRanges allDifferent readCross readCrossBin readCrossBins readToken expressions readSelect readSelects u16 u32 u64 valueTests patternTests rangeRules binRules coverBinOf tokenRules readPointSection readBinSection readRangeSection readTransitionSection readSequenceSection readStepSection readStepRangeSection readCrossSection readCrossBinSection readTokenSection readTransitionBins readCrosses readTable decode sectionFrom sequences wordsNeeded illegalTotal countsOf unknownsOf runsOf nextRuns binLengths allLengths sampledWords reportWords sampledReport consistent inWidths callTests restarted accept onTable call measure section round size spread climb units odd trailingZeros
+unfolding le empty pointOf signedOf guardedOf binOf spanOf below0 transitionOf stepOf crossOf crossBinOf tokenOf point bin thirtyOne twoWeights crossed stepsUpTo manyProducts twoDefaults dealtFirst signedBins illegalBin defaultBin perValueBins guardedBin oneSpan widePattern after registerAfter read guarded reported pair fault upFrom any all keep count sumOf concatOf oneOf pairUp orAll bitsFrom firstFailed values inRanges distinctValues listedValues portion inBin excludedValue listedValue distributed holds meets hasValue hasAuto valueCounters transitionCounters pointCounters coverBins tuples crossParts products productOf crossBinCounters crossCounters counters selects withinLimits patternFrom nextIn ascending coverRanges rangesOf excludedRanges holdsIn candidates meetsIn hasValueIn guardTrue reading blockSizes nextSteps matchedLengths excludedMatch coverHit productHit hits inTotal itemOf total covered figureOf groupOf itemFigure groupFigure tested _>>=_ times each readRecord readPoint readBinHeads readRange readBinRanges readTransition readSequence readSequences readStep readSteps readBinSteps readStepRanges readTransitionRanges allDifferent readCross readCrossBin readCrossBins readToken expressions readSelect readSelects u16 u32 u64 valueTests patternTests rangeRules binRules coverBinOf tokenRules readPointSection readBinSection readRangeSection readTransitionSection readSequenceSection readStepSection readStepRangeSection readCrossSection readCrossBinSection readTokenSection readTransitionBins readCrosses readTable decode sectionFrom sequences wordsNeeded illegalTotal countsOf unknownsOf runsOf nextRuns binLengths allLengths sampledWords reportWords sampledReport consistent inWidths callTests restarted accept onTable call measure section round size spread climb units odd trailingZeros
 worked = record {
   wholeTable = refl;
   wholeRegister = refl;
@@ -161,6 +209,18 @@ worked = record {
   crossFigure = refl;
   dealt = refl;
   dealtFigure = refl;
+  signedTen = refl;
+  signedLowest = refl;
+  signedHighest = refl;
+  illegalWords = refl;
+  illegalReport = refl;
+  legalReport = refl;
+  noReport = refl;
+  defaultWords = refl;
+  perValueWords = refl;
+  guardIsFalse = refl;
+  guardIsTrue = refl;
+  guardIsUnknown = refl;
   most32 = refl;
   most33 = refl;
   lastSample = refl;
