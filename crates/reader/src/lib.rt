@@ -4,7 +4,7 @@ ghost use mathlib.Core.Path.{_≡_};
 ghost use Prim.Native.Nat.{_≤_, _<_};
 ghost use lib.ListN.{getD};
 ghost use Rattle.model.specs.Format.{recordSizes};
-ghost use Rattle.reader.specs.Parts.{partAt, sectionPart, sectionBytes};
+ghost use Rattle.reader.specs.Parts.{partAt, nextCount, sectionPart, sectionBytes};
 
 // A part of the table: the bytes from `from` up to, and without, `to`.
 pub struct Part {
@@ -42,6 +42,15 @@ impl<'a> Reader<'a> {
         ensures { λ p. ⌜ p ≡ partAt (now (self .entry .table)) (self .entry .at) size ⌝ }
     {
         part_at(self.table, self.at, size)
+    }
+
+    // The reader at the next count: it stands after those records.
+    pub fn next(self, size: usize) -> Reader<'a>
+        requires { ⌜ (self .at < 4294967296) × (size ≤ 20) ⌝ }
+        ensures { λ r. ⌜ r ≡ nextCount (self .entry) size ⌝ }
+    {
+        let p = part_at(self.table, self.at, size);
+        Reader { table: self.table, at: p.to }
     }
 }
 
