@@ -1,9 +1,10 @@
 // The records of a section: where they lie in the table, and their bytes as they stand, without the count.
 use words::bytes::read2;
 ghost use mathlib.Core.Path.{_≡_};
-ghost use Prim.Native.Nat.{_≤_, _<_};
+ghost use Prim.Native.Nat.{_+_, _≤_, _<_};
 ghost use lib.ListN.{getD};
 ghost use Rattle.model.specs.Format.{recordSizes};
+ghost use Rattle.model.specs.Raw.{countPlace};
 ghost use Rattle.reader.specs.Parts.{partAt, nextCount, sectionPart, sectionBytes};
 
 // A part of the table: the bytes from `from` up to, and without, `to`.
@@ -54,14 +55,6 @@ impl<'a> Reader<'a> {
     }
 }
 
-// The same over plain parameters: a reader is made, and asked.
-pub fn records_at(table: &[u8], at: usize, size: usize) -> Part
-    requires { ⌜ (at < 4294967296) × (size ≤ 20) ⌝ }
-    ensures { λ r. ⌜ r ≡ partAt (now (table .entry)) at size ⌝ }
-{
-    reader_at(table, at).records(size)
-}
-
 // The bytes of a record of section k + 1; 0 where there is no such section.
 pub fn record_size(k: u32) -> usize
     ensures { λ r. ⌜ (r ≡ getD recordSizes k 0) × (r ≤ 20) ⌝ }
@@ -70,24 +63,28 @@ pub fn record_size(k: u32) -> usize
     if k < 10 { sizes[k as usize] } else { 0 }
 }
 
-// The records of section 1 to 10: a reader goes from count to count. For another number the part is empty.
+// The records of section k + 1: a reader goes from count to count, and the last is asked.
+pub fn records_of(table: &[u8], k: u32) -> Part
+    requires { ⌜ (k < 10) × (countPlace (now table) 10 < 4294967296) ⌝ }
+    ensures { λ r. ⌜ r ≡ sectionPart (now (table .entry)) (k + 1) ⌝ }
+{
+    let mut reader = reader_at(table, 0);
+    let mut i: u32 = 0;
+    while i < k {
+        reader = reader.next(record_size(i));
+        i += 1;
+    }
+    reader.records(record_size(k))
+}
+
+// The records of section 1 to 10; for another number the part is empty.
 pub fn section_part(table: &[u8], number: u32) -> Part
     ensures { λ r. ⌜ r ≡ sectionPart (now (table .entry)) number ⌝ }
 {
-    if number > 10 {
-        return Part { from: 0, to: 0 };
+    match number {
+        1..=10 => records_of(table, number - 1),
+        _ => Part { from: 0, to: 0 },
     }
-    let mut from: usize = 0;
-    let mut to: usize = 0;
-    let mut k: u32 = 0;
-    while k < number {
-        let size = record_size(k);
-        let p = records_at(table, to, size);
-        from = p.from;
-        to = p.to;
-        k += 1;
-    }
-    Part { from: from, to: to }
 }
 
 // The bytes of section 1 to 10 as they stand in the table; none where its records run past the table's end, or for another number.
