@@ -40,7 +40,7 @@ module _ (s : List ℕ) where
       go false e = rw e (omega arith)
 
   -- section k + 1, which ends where the next count would stand
-  pub section-front : (k : ℕ) → k < 10 → countPlace s (suc k) ≤ length s → sectionBytes s (suc k) ≡ sectionFrom s 0 recordSizes k
+  section-front : (k : ℕ) → k < 10 → countPlace s (suc k) ≤ length s → sectionBytes s (suc k) ≡ sectionFrom s 0 recordSizes k
   unfolding sectionBytes sectionPart countPlace recordsPlace recordCount
   section-front k h g =
       let n = recordCount s k * getD recordSizes k 0 in

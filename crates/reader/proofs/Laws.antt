@@ -1,6 +1,6 @@
 -- Sections by their places: from one count to the next, and the bytes of a section's part.
 -- Assumes nothing.
-use mathlib.Core.Path.{_≡_, refl, ap, sym, _∙_}
+use mathlib.Core.Path.{_≡_, refl, _∙_}
 use mathlib.Core.Bool.{Bool, true, false, _&&_, cond}
 use mathlib.Core.List.{List, [], _∷_}
 use Prim.Native.Nat.{ℕ, zero, suc, _+_, _-_, _*_, _≤_, _<_}
@@ -29,7 +29,7 @@ at-most m [] e k = omega arith
 at-most m (x ∷ xs) e zero = leb-true x m (and-left (leb x m) (atMost m xs) e)
 at-most m (x ∷ xs) e (suc k) = at-most m xs (and-right (leb x m) (atMost m xs) e) k
 
-pub u16-small : (s : List ℕ) → ((i : ℕ) → getD s i 0 < 256) → (at : ℕ) → u16 s at < 65536
+u16-small : (s : List ℕ) → ((i : ℕ) → getD s i 0 < 256) → (at : ℕ) → u16 s at < 65536
 unfolding u16
 u16-small s bytes at = omega (arith, bytes at, bytes (at + 1))
 
@@ -45,12 +45,7 @@ records-small n size h g = mul-le-mul {n₂ = 65535} {m₂ = 20} (omega arith) g
 -- ---- from one section to the next
 
 module _ (s : List ℕ) where
-  -- section k + 1 is the part at its count
-  pub section-at : (k : ℕ) → k < 10 → sectionPart s (suc k) ≡ partAt s (countPlace s k) (getD recordSizes k 0)
-  unfolding sectionPart partAt recordCount recordsPlace
-  section-at k h = rw (lt-ltb k 10)
-
-  -- its end is the place of the next count
+  -- the end of section k + 1 is the place of the next count
   pub section-end : (k : ℕ) → k < 10 → sectionPart s (suc k) .to ≡ countPlace s (suc k)
   unfolding sectionPart recordCount recordsPlace countPlace
   section-end k h = rw (lt-ltb k 10)
@@ -65,7 +60,8 @@ module _ (s : List ℕ) where
   count-next i size e = rw (e, add-one i)
 
   pub section-found : (k size : ℕ) (p : Part) → k < 10 → size ≡ getD recordSizes k 0 → p ≡ partAt s (countPlace s k) size → p ≡ sectionPart s (k + 1)
-  section-found k size p h e f = rw (add-one k, section-at k h, ← e) f
+  unfolding sectionPart partAt recordCount recordsPlace
+  section-found k size p h e f = f ∙ rw (e, add-one k, lt-ltb k 10)
 
   -- counts stand one after the other
   pub places-rise : (n j k : ℕ) → j + n ≡ k → countPlace s j ≤ countPlace s k
@@ -86,7 +82,7 @@ module _ (s : List ℕ) where
   no-section (suc k) h = rw (le-ltb k 10 (omega (arith, h (omega arith))))
 
   -- a section ends at or after its start
-  pub section-ordered : (number : ℕ) → sectionPart s number .from ≤ sectionPart s number .to
+  section-ordered : (number : ℕ) → sectionPart s number .from ≤ sectionPart s number .to
   unfolding sectionPart
   section-ordered zero = omega arith
   section-ordered (suc k) = ordered (ltb k 10) (recordsPlace s k) (recordCount s k * getD recordSizes k 0)

@@ -24,7 +24,7 @@ pub fn part_at(table: &[u8], at: usize, size: usize) -> Part
     Part { from: from, to: to }
 }
 
-// The lent table and a place in it: the place of a section's count.
+// Document 01's reader, which holds the lent table and its place and walks it. The place is that of a section's count.
 pub struct Reader<'a> {
     pub table: &'a [u8],
     pub at: usize,
@@ -45,13 +45,16 @@ impl<'a> Reader<'a> {
         part_at(self.table, self.at, size)
     }
 
-    // The reader at the next count: it stands after those records.
+    // The reader at the next count, which stands after those records.
     pub fn next(self, size: usize) -> Reader<'a>
         requires { ⌜ (self .at < 4294967296) × (size ≤ 20) ⌝ }
         ensures { λ r. ⌜ r ≡ nextCount (self .entry) size ⌝ }
     {
         let p = part_at(self.table, self.at, size);
-        Reader { table: self.table, at: p.to }
+        Reader {
+            table: self.table,
+            at: p.to,
+        }
     }
 }
 
@@ -63,7 +66,7 @@ pub fn record_size(k: u32) -> usize
     if k < 10 { sizes[k as usize] } else { 0 }
 }
 
-// The records of section k + 1: a reader goes from count to count, and the last is asked.
+// The records of section k + 1: a reader walks from count to count, and is asked at the last.
 pub fn records_of(table: &[u8], k: u32) -> Part
     requires { ⌜ (k < 10) × (countPlace (now table) 10 < 4294967296) ⌝ }
     ensures { λ r. ⌜ r ≡ sectionPart (now (table .entry)) (k + 1) ⌝ }
