@@ -13,7 +13,7 @@ use Rattle.model.specs.Table.{Table}
 use Rattle.model.specs.Format.{u16, recordSizes, sectionFrom, decoded, decode, sectionOf}
 use Rattle.model.specs.Raw.{countPlace, recordCount, recordsPlace}
 use Rattle.reader.specs.Parts.{sectionPart, sectionBytes}
-use Rattle.reader.proofs.Laws.{section-end}
+use Rattle.reader.proofs.Laws.{section-end, places-rise}
 
 module _ (s : List ℕ) where
   -- the walk from section j + 1 on, n sections further
@@ -29,12 +29,6 @@ module _ (s : List ℕ) where
   past-front (size ∷ sizes) at zero h = absurd (omega arith)
   past-front (size ∷ sizes) at (suc n) h = past-front sizes (at + 2 + u16 s at * size) n (omega arith)
 
-  -- counts stand one after the other
-  places-rise : (n j k : ℕ) → j + n ≡ k → countPlace s j ≤ countPlace s k
-  unfolding countPlace
-  places-rise zero j k e = let d : j ≡ k = omega arith in rw d (omega arith)
-  places-rise (suc n) j k e = omega (arith, places-rise n (suc j) k (omega arith))
-
   -- every section ends within a table within which the tenth does
   pub section-within : countPlace s 10 ≤ length s → (number : ℕ) → sectionPart s number .to ≤ length s
   unfolding sectionPart
@@ -42,11 +36,11 @@ module _ (s : List ℕ) where
   section-within g (suc k) = go (ltb k 10) refl
     where
       go : (b : Bool) → ltb k 10 ≡ b → sectionPart s (suc k) .to ≤ length s
-      go true e = let h = ltb-true k 10 e in omega (arith, section-end s k h, places-rise (9 - k) (suc k) 10 (omega arith))
+      go true e = let h = ltb-true k 10 e in omega (arith, section-end s k h, places-rise s (9 - k) (suc k) 10 (omega arith))
       go false e = rw e (omega arith)
 
   -- section k + 1, which ends where the next count would stand
-  pub section-front : (k : ℕ) → k < 10 → countPlace s (suc k) ≤ length s → sectionBytes s (suc k) ≡ sectionFrom s 0 recordSizes k
+  section-front : (k : ℕ) → k < 10 → countPlace s (suc k) ≤ length s → sectionBytes s (suc k) ≡ sectionFrom s 0 recordSizes k
   unfolding sectionBytes sectionPart countPlace recordsPlace recordCount
   section-front k h g =
       let n = recordCount s k * getD recordSizes k 0 in
@@ -60,7 +54,7 @@ module _ (s : List ℕ) where
   all-front g t (suc k) = go (ltb k 10) refl
     where
       go : (b : Bool) → ltb k 10 ≡ b → sectionBytes s (suc k) ≡ sectionFrom s 0 recordSizes k
-      go true e = let h = ltb-true k 10 e in section-front k h (omega (arith, places-rise (9 - k) (suc k) 10 (omega arith)))
+      go true e = let h = ltb-true k 10 e in section-front k h (omega (arith, places-rise s (9 - k) (suc k) 10 (omega arith)))
       go false e = rw (e, le-leb 0 (length s) (omega arith)) (sym (past-front recordSizes 0 k (omega (arith, ltb-false k 10 e))))
 
   -- Of an accepted table it is the model's section.

@@ -1,6 +1,6 @@
 -- Sections by their places: from one count to the next, and the bytes of a section's part.
 -- Assumes nothing.
-use mathlib.Core.Path.{_≡_, refl, ap, sym, _∙_}
+use mathlib.Core.Path.{_≡_, refl, _∙_}
 use mathlib.Core.Bool.{Bool, true, false, _&&_, cond}
 use mathlib.Core.List.{List, [], _∷_}
 use Prim.Native.Nat.{ℕ, zero, suc, _+_, _-_, _*_, _≤_, _<_}
@@ -29,7 +29,7 @@ at-most m [] e k = omega arith
 at-most m (x ∷ xs) e zero = leb-true x m (and-left (leb x m) (atMost m xs) e)
 at-most m (x ∷ xs) e (suc k) = at-most m xs (and-right (leb x m) (atMost m xs) e) k
 
-pub u16-small : (s : List ℕ) → ((i : ℕ) → getD s i 0 < 256) → (at : ℕ) → u16 s at < 65536
+u16-small : (s : List ℕ) → ((i : ℕ) → getD s i 0 < 256) → (at : ℕ) → u16 s at < 65536
 unfolding u16
 u16-small s bytes at = omega (arith, bytes at, bytes (at + 1))
 
@@ -45,52 +45,44 @@ records-small n size h g = mul-le-mul {n₂ = 65535} {m₂ = 20} (omega arith) g
 -- ---- from one section to the next
 
 module _ (s : List ℕ) where
-  -- section k + 1 is the part at its count
-  pub section-at : (k : ℕ) → k < 10 → sectionPart s (suc k) ≡ partAt s (countPlace s k) (getD recordSizes k 0)
-  unfolding sectionPart partAt recordCount recordsPlace
-  section-at k h = rw (lt-ltb k 10)
-
-  -- its end is the place of the next count
+  -- the end of section k + 1 is the place of the next count
   pub section-end : (k : ℕ) → k < 10 → sectionPart s (suc k) .to ≡ countPlace s (suc k)
   unfolding sectionPart recordCount recordsPlace countPlace
   section-end k h = rw (lt-ltb k 10)
 
-  -- What a walk over the counts knows before section k + 1: the part of the section before it, and that its own count stands at the part's end.
-  pub record Walked (number from to k : ℕ) : Type 0 where
-    pub few : number ≤ 10
-    pub within : k ≤ number
-    pub small : to ≤ 1310702 * k
-    pub here : to ≡ countPlace s k
-    pub found : part from to ≡ sectionPart s k
+  -- a walk over the counts: where it begins, where it goes on after section i + 1, and what stands at the count of section k + 1
+  pub count-first : 0 ≡ countPlace s 0
+  unfolding countPlace
+  count-first = refl
 
-  pub walk-start : (number : ℕ) → number ≤ 10 → Walked number 0 0 0
-  unfolding countPlace sectionPart
-  walk-start number h = record { few = h; within = omega arith; small = omega arith; here = refl; found = refl }
+  pub count-next : (i size : ℕ) → size ≡ getD recordSizes i 0 → partAt s (countPlace s i) size .to ≡ countPlace s (i + 1)
+  unfolding partAt countPlace
+  count-next i size e = rw (e, add-one i)
 
-  pub walk-on : {number from to k size : ℕ} (p : Part) → ((i : ℕ) → getD s i 0 < 256) → Walked number from to k → k < number → size ≡ getD recordSizes k 0
-      → p ≡ partAt s to size → Walked number (p .from) (p .to) (k + 1)
-  unfolding partAt
-  walk-on {number} {from} {to} {k} {size} p bytes w h e f =
-      let is : p ≡ sectionPart s (suc k) = f ∙ rw (e, w .here) (sym (section-at k (omega arith))) in
-      record {
-        few = w .few;
-        within = omega arith;
-        small = omega (arith, ap (λ (x : Part). x .to) f, records-small (u16 s to) size (u16-small s bytes to) (rw e (size-small k)));
-        here = rw (add-one k) (ap (λ (x : Part). x .to) is ∙ section-end k (omega arith));
-        found = rw (add-one k) is;
-      }
+  pub section-found : (k size : ℕ) (p : Part) → k < 10 → size ≡ getD recordSizes k 0 → p ≡ partAt s (countPlace s k) size → p ≡ sectionPart s (k + 1)
+  unfolding sectionPart partAt recordCount recordsPlace
+  section-found k size p h e f = f ∙ rw (e, add-one k, lt-ltb k 10)
 
-  pub walk-end : {number from to k : ℕ} → Walked number from to k → number ≤ k → part from to ≡ sectionPart s number
-  walk-end {number} {from} {to} {k} w h = let e : k ≡ number = omega arith in rw e at (w .found)
+  -- counts stand one after the other
+  pub places-rise : (n j k : ℕ) → j + n ≡ k → countPlace s j ≤ countPlace s k
+  unfolding countPlace
+  places-rise zero j k e = let d : j ≡ k = omega arith in rw d (omega arith)
+  places-rise (suc n) j k e = omega (arith, places-rise n (suc j) k (omega arith))
 
-  -- there is no section with a larger number
-  pub no-section : (number : ℕ) → 10 < number → part 0 0 ≡ sectionPart s number
+  -- and not far apart, in a list of bytes
+  pub places-small : ((i : ℕ) → getD s i 0 < 256) → (k : ℕ) → countPlace s k ≤ 1310702 * k
+  unfolding countPlace
+  places-small bytes zero = omega arith
+  places-small bytes (suc k) = omega (arith, places-small bytes k, records-small (u16 s (countPlace s k)) (getD recordSizes k 0) (u16-small s bytes (countPlace s k)) (size-small k))
+
+  -- there is no section with another number
+  pub no-section : (number : ℕ) → (1 ≤ number → 10 < number) → part 0 0 ≡ sectionPart s number
   unfolding sectionPart
   no-section zero h = refl
-  no-section (suc k) h = rw (le-ltb k 10 (omega arith))
+  no-section (suc k) h = rw (le-ltb k 10 (omega (arith, h (omega arith))))
 
   -- a section ends at or after its start
-  pub section-ordered : (number : ℕ) → sectionPart s number .from ≤ sectionPart s number .to
+  section-ordered : (number : ℕ) → sectionPart s number .from ≤ sectionPart s number .to
   unfolding sectionPart
   section-ordered zero = omega arith
   section-ordered (suc k) = ordered (ltb k 10) (recordsPlace s k) (recordCount s k * getD recordSizes k 0)

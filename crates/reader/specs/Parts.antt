@@ -7,7 +7,9 @@ use lib.Dec.{leb, ltb}
 use lib.ListN.{length, getD, take, drop}
 use Rattle.model.specs.Format.{u16, recordSizes}
 use Rattle.model.specs.Raw.{recordCount, recordsPlace}
+use denote.Ref.{now}
 use Rattle.reader.specs.declared.Part.{Part}
+use Rattle.reader.specs.declared.Reader.{Reader}
 
 abbrev pub part : ℕ → ℕ → Part
 part from to = record { from = from; to = to }
@@ -15,6 +17,10 @@ part from to = record { from = from; to = to }
 -- the records after the count at `at`, each of `size` bytes
 unfoldable pub partAt : List ℕ → ℕ → ℕ → Part
 partAt s at size = part (at + 2) (at + 2 + u16 s at * size)
+
+-- the reader at the next count: the same table, and the place after the records of the section at r's place
+abbrev pub nextCount : Reader → ℕ → Reader
+nextCount r size = record { table = r .table; at = partAt (now (r .table)) (r .at) size .to }
 
 -- the records of section 1 to 10; for another number an empty part
 unfoldable pub sectionPart : List ℕ → ℕ → Part

@@ -1,10 +1,11 @@
 // The records of a section: where they lie in the table, and their bytes as they stand, without the count.
 use words::bytes::read2;
 ghost use mathlib.Core.Path.{_≡_};
-ghost use Prim.Native.Nat.{_≤_, _<_};
+ghost use Prim.Native.Nat.{_+_, _≤_, _<_};
 ghost use lib.ListN.{getD};
 ghost use Rattle.model.specs.Format.{recordSizes};
-ghost use Rattle.reader.specs.Parts.{partAt, sectionPart, sectionBytes};
+ghost use Rattle.model.specs.Raw.{countPlace};
+ghost use Rattle.reader.specs.Parts.{partAt, nextCount, sectionPart, sectionBytes};
 
 // A part of the table: the bytes from `from` up to, and without, `to`.
 pub struct Part {
@@ -23,7 +24,7 @@ pub fn part_at(table: &[u8], at: usize, size: usize) -> Part
     Part { from: from, to: to }
 }
 
-// The lent table and a place in it: the place of a section's count.
+// Document 01's reader, which holds the lent table and its place and walks it. The place is that of a section's count.
 pub struct Reader<'a> {
     pub table: &'a [u8],
     pub at: usize,
@@ -43,14 +44,18 @@ impl<'a> Reader<'a> {
     {
         part_at(self.table, self.at, size)
     }
-}
 
-// The same over plain parameters: a reader is made, and asked.
-pub fn records_at(table: &[u8], at: usize, size: usize) -> Part
-    requires { ⌜ (at < 4294967296) × (size ≤ 20) ⌝ }
-    ensures { λ r. ⌜ r ≡ partAt (now (table .entry)) at size ⌝ }
-{
-    reader_at(table, at).records(size)
+    // The reader at the next count, which stands after those records.
+    pub fn next(self, size: usize) -> Reader<'a>
+        requires { ⌜ (self .at < 4294967296) × (size ≤ 20) ⌝ }
+        ensures { λ r. ⌜ r ≡ nextCount (self .entry) size ⌝ }
+    {
+        let p = part_at(self.table, self.at, size);
+        Reader {
+            table: self.table,
+            at: p.to,
+        }
+    }
 }
 
 // The bytes of a record of section k + 1; 0 where there is no such section.
@@ -61,24 +66,28 @@ pub fn record_size(k: u32) -> usize
     if k < 10 { sizes[k as usize] } else { 0 }
 }
 
-// The records of section 1 to 10: a reader goes from count to count. For another number the part is empty.
+// The records of section k + 1: a reader walks from count to count, and is asked at the last.
+pub fn records_of(table: &[u8], k: u32) -> Part
+    requires { ⌜ (k < 10) × (countPlace (now table) 10 < 4294967296) ⌝ }
+    ensures { λ r. ⌜ r ≡ sectionPart (now (table .entry)) (k + 1) ⌝ }
+{
+    let mut reader = reader_at(table, 0);
+    let mut i: u32 = 0;
+    while i < k {
+        reader = reader.next(record_size(i));
+        i += 1;
+    }
+    reader.records(record_size(k))
+}
+
+// The records of section 1 to 10; for another number the part is empty.
 pub fn section_part(table: &[u8], number: u32) -> Part
     ensures { λ r. ⌜ r ≡ sectionPart (now (table .entry)) number ⌝ }
 {
-    if number > 10 {
-        return Part { from: 0, to: 0 };
+    match number {
+        1..=10 => records_of(table, number - 1),
+        _ => Part { from: 0, to: 0 },
     }
-    let mut from: usize = 0;
-    let mut to: usize = 0;
-    let mut k: u32 = 0;
-    while k < number {
-        let size = record_size(k);
-        let p = records_at(table, to, size);
-        from = p.from;
-        to = p.to;
-        k += 1;
-    }
-    Part { from: from, to: to }
 }
 
 // The bytes of section 1 to 10 as they stand in the table; none where its records run past the table's end, or for another number.
