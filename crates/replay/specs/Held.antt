@@ -1,0 +1,11 @@
+-- What is known of a log between two of its entries.
+-- Assumes nothing.
+use Prim.Native.Nat.{ℕ, _≤_}
+use Rattle.replay.specs.declared.entries.Log.{Log}
+
+-- the log's bytes stand in order within a buffer of n bytes
+pub record Held (log : Log) (n : ℕ) : Type 0 where
+  pub points : log .points ≤ 16
+  pub at : log .at ≤ log .from
+  pub from : log .from ≤ log .to
+  pub to : log .to ≤ n
