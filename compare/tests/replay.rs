@@ -377,7 +377,7 @@ fn long_logs() {
     assert_eq!(String::from_utf8(output).unwrap(), replay(&bytes, dribbled));
 }
 
-/// A table with nearly as many places as there can be, a log, and the report, which no buffer holds.
+/// A table with nearly as many places as there can be, a log, and a report that no buffer holds.
 fn large() -> (Vec<u8>, Vec<u8>, String) {
     let mut points = vec![Point::new(8).auto_max(256); 14];
     points.extend(vec![Point::new(5); 2]);

@@ -14,7 +14,7 @@ ghost use lib.ListN.{length};
 ghost use Rattle.model.specs.Register as Model;
 ghost use Rattle.arrays.specs.Put.{put};
 ghost use Rattle.replay.specs.Log.{wordsIn, sampleIn};
-ghost use Rattle.replay.specs.Held.{Held};
+ghost use Rattle.replay.specs.Held.{Held, Kept};
 
 // How a log stands: its next entry is to be taken, or it stopped, at its end or within.
 pub const GOING: u8 = 0;
@@ -64,7 +64,7 @@ fn new_log(fd: i32, points: usize) -> Log
 }
 
 fn stopped(log: Log, state: u8, number: u32) -> Log
-    ensures { λ r. ⌜ (r .points ≡ log .points) × (r .at ≡ log .at) × (r .from ≡ log .from) × (r .to ≡ log .to) ⌝ }
+    ensures { λ r. ⌜ Kept log r ⌝ }
 {
     let mut next = log;
     next.state = state;
@@ -74,7 +74,7 @@ fn stopped(log: Log, state: u8, number: u32) -> Log
 
 // A call's number.
 fn outcome(log: Log, number: u32) -> Log
-    ensures { λ r. ⌜ (r .points ≡ log .points) × (r .at ≡ log .at) × (r .from ≡ log .from) × (r .to ≡ log .to) ⌝ }
+    ensures { λ r. ⌜ Kept log r ⌝ }
 {
     if number == 0 {
         return log;
@@ -83,7 +83,7 @@ fn outcome(log: Log, number: u32) -> Log
 }
 
 // How a log stands after a read of its bytes.
-fn standing(got: Filled, want: usize) -> u8 {
+fn state_after(got: Filled, want: usize) -> u8 {
     if want <= got.count {
         return GOING;
     }
@@ -117,7 +117,7 @@ fn take_bytes(bytes: &mut [u8], log: Log, want: usize) -> Log
     let have = to_front(bytes, from, to);
     let got = fill(bytes, log.fd, have, want);
     let n = got.count;
-    moved(log, 0, least(want, n), n, standing(got, want))
+    moved(log, 0, least(want, n), n, state_after(got, want))
 }
 
 // The first n words of the bytes.
@@ -140,7 +140,7 @@ pub fn count_of(register: &[u32], place: usize) -> u32 {
     0
 }
 
-// The register is new, so that a place's count says how often its line was due.
+// The register was new when the log began: a place's count says how often it was raised.
 fn say_raised(out: &mut [u8], register: &[u32], raised: bool, place: usize, entry: u64) {
     if !raised | (count_of(register, place) > SHOWN) {
         return;
@@ -219,7 +219,7 @@ fn take_sample(
 
 // The log ends where an entry could begin.
 fn at_end(head: Log) -> Log
-    ensures { λ r. ⌜ (r .points ≡ head .points) × (r .at ≡ head .at) × (r .from ≡ head .from) × (r .to ≡ head .to) ⌝ }
+    ensures { λ r. ⌜ Kept head r ⌝ }
 {
     if (head.state == CUT) & (head.to == 0) {
         return stopped(head, ENDED, 0);

@@ -1,8 +1,9 @@
 // Reading files through a buffer: a read that fails is told from the end.
 ghost use Prim.Native.Nat.{_+_, _≤_};
 ghost use mathlib.Core.Path.{_≡_};
-ghost use lib.ListN.{length};
+ghost use lib.ListN.{length, take, drop};
 ghost use Rattle.io.specs.Counts.{Counts};
+ghost use Rattle.arrays.specs.Put.{put};
 
 // How often a read that a signal interrupts is tried before it counts as failed.
 const TRIES: u32 = 100000000;
@@ -71,6 +72,7 @@ pub fn fill(buf: &mut [u8], fd: i32, have: usize, want: usize) -> Filled
 pub fn to_front(buf: &mut [u8], from: usize, to: usize) -> usize
     requires { ⌜ (from ≤ to) × (to ≤ length (now buf)) ⌝ }
     ensures { λ r. ⌜ from + r ≡ to ⌝ }
+    ensures { λ r. ⌜ now (buf .exit) ≡ put 0 (take r (drop from (now (buf .entry)))) (now (buf .entry)) ⌝ }
 {
     let n = to - from;
     let mut i = 0;

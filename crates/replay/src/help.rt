@@ -48,11 +48,9 @@ fn say_log(out: &mut [u8]) {
     );
 }
 
-fn say_lines(out: &mut [u8]) {
-    say(
-        out,
-        b"The report is lines of text on standard output:\n  illegal place P raised at sample S (entry E)\n",
-    );
+fn say_illegal_lines(out: &mut [u8]) {
+    say(out, b"The report is lines of text on standard output:\n");
+    say(out, b"  illegal place P raised at sample S (entry E)\n");
     say(
         out,
         b"     (in the log's order; the first 10 times of each place)\n",
@@ -61,13 +59,15 @@ fn say_lines(out: &mut [u8]) {
         out,
         b"  illegal place P total: COUNT (SHOWN shown)  (each that was raised)\n",
     );
+}
+
+fn say_lines(out: &mut [u8]) {
+    say(out, b"  samples N, running  (or: stopped)\n");
+    say(out, b"  place P: COUNT (OWNER, WHAT, STANDING)\n");
+    say(out, b"  point P unknown: COUNT\n");
     say(
         out,
-        b"  samples N, running  (or: stopped)\n  place P: COUNT (OWNER, WHAT, STANDING)\n",
-    );
-    say(
-        out,
-        b"  point P unknown: COUNT\n  item I: PERCENT % (OWNER)  (or: no figure; the points, then the crosses)\n",
+        b"  item I: PERCENT % (OWNER)  (or: no figure; the points, then the crosses)\n",
     );
     say(out, b"  group: PERCENT %  (or: no figure)\n");
 }
@@ -144,14 +144,11 @@ fn say_partial(out: &mut [u8]) {
 }
 
 fn say_none(out: &mut [u8]) {
-    say(
-        out,
-        b"or, where no entry was taken,\n  no report: table refused: NUMBER (REASON)\n",
-    );
-    say(
-        out,
-        b"  no report: table not read\n  no report: log not opened\n  no report: a name is too long\n",
-    );
+    say(out, b"or, where no entry was taken,\n");
+    say(out, b"  no report: table refused: NUMBER (REASON)\n");
+    say(out, b"  no report: table not read\n");
+    say(out, b"  no report: log not opened\n");
+    say(out, b"  no report: a name is too long\n");
 }
 
 fn say_reason(out: &mut [u8], number: u32) {
@@ -176,6 +173,7 @@ fn say_refusals(out: &mut [u8]) {
 pub fn say_help(out: &mut [u8]) {
     say_purpose(out);
     say_log(out);
+    say_illegal_lines(out);
     say_lines(out);
     say_words(out);
     say_percents(out);

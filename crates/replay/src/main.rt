@@ -37,7 +37,7 @@ fn tell_unread(log: Log, path: &[u8]) {
     }
 }
 
-// Takes the log's entries with a new register, and writes the report. There is a kind for each place.
+// Takes the log with a new register, and writes the report. There is a kind for each place.
 fn take_log(out: &mut [u8], table: &[u8], kinds: &[u8], points: usize, fd: i32, path: &[u8])
     requires { ⌜ (accepted (now table) ≡ true) × (points ≤ 16) ⌝ }
 {

@@ -77,10 +77,10 @@ fn write_whole(text: &[u8]) -> bool {
 
 // Writes the text that the buffer holds. The first failure is said, and is the last write.
 pub fn flush(out: &mut [u8]) {
-    let end = end_of(out);
     if has_failed(out) {
         return;
     }
+    let end = end_of(out);
     if end <= START {
         return;
     }
