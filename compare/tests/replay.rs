@@ -662,6 +662,22 @@ fn a_full_device() {
     assert_eq!(full(&["--version".as_ref()]), expected);
 }
 
+/// With standard output closed the table's file gets its number, and is not written to.
+#[test]
+fn no_standard_output() {
+    let folder = folder("none");
+    let table = file(&folder, "table", &smallest());
+    let log = file(&folder, "log", &log(&[sample(1, 0)]));
+    let mut command = Command::new("bash");
+    command.args(["-c", "exec \"$@\" >&-", "bash"]);
+    let (out, err) = told(command.args([&program(), &table, &log]));
+    assert_eq!(
+        (out, err),
+        (String::new(), cannot_write("Bad file descriptor"))
+    );
+    assert_eq!(fs::read(&table).unwrap(), smallest());
+}
+
 /// A program that reads its standard input, and the pipe to it.
 fn reader(script: &str) -> (Child, ChildStdin) {
     let mut child = Command::new("bash")
