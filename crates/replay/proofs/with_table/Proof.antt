@@ -1,6 +1,6 @@
-use lib.Seq.{length-take-le}
 use mathlib.Core.Path.{sym}
 use native.Mathlib.Omega.{arith}
+use lib.Seq.{length-take-le}
 use borrow.Author.Needs.{needs}
 use Rattle.replay.proofs.with_table.Statement.{statement}
 use Rattle.replay.proofs.with_table.Tie as tie

@@ -1,8 +1,8 @@
+use mathlib.Core.Path.{_≡_}
 use Prim.Native.Nat.{_-_}
-use Rattle.replay.specs.Held.{Held}
-use borrow.Author.Needs.{needs}
 use lib.ListN.{length}
-use mathlib.Core.Path.{_≡_, refl}
+use borrow.Author.Needs.{needs}
+use Rattle.replay.specs.Held.{Held}
 use Rattle.replay.proofs.entries.take_entries.Statement.{statement}
 use Rattle.replay.proofs.entries.take_entries.Tie as tie
 

@@ -1,6 +1,6 @@
-use lib.Seq.{length-take-le}
 use mathlib.Core.Path.{sym}
 use native.Mathlib.Omega.{arith}
+use lib.Seq.{length-take-le}
 use borrow.Author.Needs.{needs}
 use Rattle.replay.proofs.errors.cannot_read.Statement.{statement}
 use Rattle.replay.proofs.errors.cannot_read.Tie as tie

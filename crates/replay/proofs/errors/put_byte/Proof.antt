@@ -1,5 +1,5 @@
-use lib.ListN.{length-set}
 use native.Mathlib.Omega.{arith}
+use lib.ListN.{length-set}
 use borrow.Author.Needs.{needs}
 use Rattle.replay.proofs.errors.put_byte.Statement.{statement}
 use Rattle.replay.proofs.errors.put_byte.Tie as tie

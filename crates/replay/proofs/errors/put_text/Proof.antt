@@ -1,7 +1,7 @@
+use mathlib.Core.Path.{_≡_}
 use Prim.Native.Nat.{_≤_, _-_}
-use lib.ListN.{length}
-use mathlib.Core.Path.{_≡_, refl}
 use native.Mathlib.Omega.{arith}
+use lib.ListN.{length}
 use Rattle.replay.proofs.errors.put_text.Statement.{statement}
 use Rattle.replay.proofs.errors.put_text.Tie as tie
 

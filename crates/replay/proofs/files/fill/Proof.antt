@@ -1,11 +1,11 @@
-use native.Mathlib.Omega.{arith}
-use Rattle.io.specs.Counts.{Counts}
-use lib.Seq.{length-take-le}
-use Prim.Native.Nat.{ℕ, _≤_, _-_}
-use borrow.Author.Needs.{needs}
-use lib.ListN.{length}
-use mathlib.Core.Path.{_≡_, refl, sym}
+use mathlib.Core.Path.{_≡_, sym}
 use mathlib.Core.List.{List}
+use Prim.Native.Nat.{ℕ, _≤_, _-_}
+use native.Mathlib.Omega.{arith}
+use lib.Seq.{length-take-le}
+use lib.ListN.{length}
+use borrow.Author.Needs.{needs}
+use Rattle.io.specs.Counts.{Counts}
 use Rattle.replay.proofs.files.fill.Statement.{statement}
 use Rattle.replay.proofs.files.fill.Tie as tie
 

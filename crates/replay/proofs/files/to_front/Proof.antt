@@ -1,9 +1,9 @@
-use Prim.Native.Nat.{ℕ, suc, _+_, _≤_, _<_, _-_}
-use lib.ListN.{length, length-set, getD, set, take, drop}
-use lib.Seq.{drop-cons, drop-set-lt}
 use mathlib.Core.List.{List, _∷_}
 use mathlib.Core.Path.{_≡_, refl, sym, _∙_}
+use Prim.Native.Nat.{ℕ, suc, _+_, _≤_, _<_, _-_}
 use native.Mathlib.Omega.{arith}
+use lib.ListN.{length, length-set, getD, set, take, drop}
+use lib.Seq.{drop-cons, drop-set-lt}
 use Rattle.model.proofs.Lists.{one-left}
 use Rattle.arrays.specs.Put.{put}
 use Rattle.arrays.proofs.PutLaws.{put-nil, put-cons}

@@ -1,6 +1,6 @@
 use Prim.Native.Nat.{_≤_, _-_}
-use borrow.Author.Needs.{needs}
 use lib.ListN.{length}
+use borrow.Author.Needs.{needs}
 use Rattle.replay.proofs.out.write_whole.Statement.{statement}
 use Rattle.replay.proofs.out.write_whole.Tie as tie
 
