@@ -1,11 +1,12 @@
-//! What the program `replay` writes for a table and a log, from its help text
-//! and the rules alone.
+//! What the program `replay` writes to standard output for a table and a log,
+//! from its help text and the rules alone.
 
 use crate::book::{Label, Rules};
 use crate::register::Model;
 use std::fmt::Write;
 
-const NO_LOG: &str = "no report: the log was not taken to its end\n";
+/// How often the line of an illegal place is shown.
+const SHOWN: u64 = 10;
 
 /// A refusal with its meaning, as replay says it.
 pub fn reason(number: u32) -> &'static str {
@@ -42,6 +43,13 @@ pub fn log(entries: &[Entry]) -> Vec<u8> {
         Entry::Other(word) => vec![*word],
     });
     words.flat_map(u32::to_le_bytes).collect()
+}
+
+/// What follows the bytes of a log that were read.
+#[derive(Clone, Copy, Debug, PartialEq, Eq)]
+pub enum After {
+    TheEnd,
+    AFailedRead,
 }
 
 /// The entry that the bytes begin with, and what follows it; none if they end within it.
@@ -83,6 +91,7 @@ fn owner(item: usize, points: usize) -> String {
     }
 }
 
+/// The lines from `samples ..` to `group: ..`.
 fn report(model: &Model, labels: &[Label], register: &[u32]) -> String {
     let layout = model.layout();
     let points = layout.points;
@@ -109,61 +118,94 @@ fn report(model: &Model, labels: &[Label], register: &[u32]) -> String {
     }
     let (_, figure) = model.group_figure(register);
     let figure = figure.map(|figure| millionths(figure.into()));
-    writeln!(text, "group: {}\nend of report", or_none(figure)).unwrap();
+    writeln!(text, "group: {}", or_none(figure)).unwrap();
     text
+}
+
+/// The illegal places: how often each was raised, and the lines that say so.
+struct Illegals {
+    raised: Vec<(usize, u64)>,
+    lines: String,
+}
+
+impl Illegals {
+    fn of(labels: &[Label]) -> Illegals {
+        let places = (0..labels.len()).filter(|&place| labels[place].illegal);
+        Illegals {
+            raised: places.map(|place| (place, 0)).collect(),
+            lines: String::new(),
+        }
+    }
+
+    /// A sample that was taken, with its report's words.
+    fn take(&mut self, report: &[u32], sample: u32, entry: usize) {
+        for ((place, times), _) in self.raised.iter_mut().zip(report).filter(|(_, w)| **w == 1) {
+            *times += 1;
+            if *times <= SHOWN {
+                let (lines, line) = (&mut self.lines, format!("illegal place {place} raised"));
+                writeln!(lines, "{line} at sample {sample} (entry {entry})").unwrap();
+            }
+        }
+    }
+
+    fn totals(&self) -> String {
+        let met = self.raised.iter().filter(|(_, times)| *times > 0);
+        met.map(|(place, times)| {
+            let shown = SHOWN.min(*times);
+            format!("illegal place {place} total: {times} ({shown} shown)\n")
+        })
+        .collect()
+    }
 }
 
 /// What replay writes for a table that it refuses.
 pub fn refused_table(number: u32) -> String {
-    format!(
-        "table refused with {number} ({})\nno report\n",
-        reason(number)
-    )
+    format!("no report: table refused: {number} ({})\n", reason(number))
 }
 
 /// What replay writes for the bytes of a table and of a log.
-pub fn replay(table: &[u8], mut log: &[u8]) -> String {
+pub fn replay(table: &[u8], log: &[u8]) -> String {
+    replay_until(table, log, After::TheEnd)
+}
+
+/// The same, where something else than the log's end may follow the bytes.
+pub fn replay_until(table: &[u8], mut log: &[u8], after: After) -> String {
     let model = match Model::read(table) {
         Ok(model) => model,
         Err(refusal) => return refused_table(refusal.number),
     };
     let layout = *model.layout();
     let labels = Rules::read(table).expect("an accepted table").labels();
-    let illegal: Vec<usize> = (0..layout.places)
-        .filter(|&place| labels[place].illegal)
-        .collect();
+    let mut illegals = Illegals::of(&labels);
     let mut register = vec![0; layout.words()];
     assert_eq!(model.reset(&mut register), 0);
-    let mut text = String::new();
     let mut at = 0;
-    while !log.is_empty() {
+    let last = loop {
         let Some((entry, rest)) = next_entry(log, layout.points) else {
-            return format!("{text}entry {at}: the log ends within it\n{NO_LOG}");
+            break match after {
+                After::AFailedRead => format!("partial report: log not read on from entry {at}"),
+                After::TheEnd if log.is_empty() => "end of report".into(),
+                After::TheEnd => format!("partial report: log cut at entry {at}"),
+            };
         };
-        let mut raised = vec![0; illegal.len()];
+        let mut raised = vec![0; illegals.raised.len()];
         let number = match entry {
             Entry::Sample(words) => model.sample(&mut register, &words, &mut raised),
             Entry::Start => model.start(&mut register),
             Entry::Stop => model.stop(&mut register),
             Entry::Other(word) => {
                 let why = format!("its first word is {word}, none of 0, 1, 2");
-                return format!("{text}entry {at}: {why}\n{NO_LOG}");
+                break format!("partial report: entry {at} of no kind: {why}");
             }
         };
         if number != 0 {
             let why = reason(number);
-            return format!("{text}entry {at}: refused with {number} ({why})\n{NO_LOG}");
+            break format!("partial report: entry {at} refused: {number} ({why})");
         }
-        for (place, _) in illegal.iter().zip(&raised).filter(|(_, word)| **word == 1) {
-            let sample = register[1];
-            writeln!(
-                text,
-                "illegal place {place} raised at sample {sample} (entry {at})"
-            )
-            .unwrap();
-        }
+        illegals.take(&raised, register[1], at);
         log = rest;
         at += 1;
-    }
-    text + &report(&model, &labels, &register)
+    };
+    let report = report(&model, &labels, &register);
+    format!("{}{}{report}{last}\n", illegals.lines, illegals.totals())
 }

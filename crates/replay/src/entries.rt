@@ -1,12 +1,10 @@
 // The entries of a log, one after the other.
-use crate::files::cannot_read;
+use crate::files::Filled;
 use crate::files::fill;
-use crate::text::end_line;
-use crate::text::say;
-use crate::text::say_head;
+use crate::files::least;
+use crate::files::to_front;
+use crate::out::say;
 use crate::text::say_number;
-use crate::text::say_refusal;
-use table::answer::Facts;
 use values::fields::word;
 use words::bytes::byte;
 use words::bytes::read4;
@@ -15,45 +13,111 @@ ghost use Prim.Native.Nat.{_≤_, _<_};
 ghost use lib.ListN.{length};
 ghost use Rattle.model.specs.Register as Model;
 ghost use Rattle.arrays.specs.Put.{put};
-ghost use Rattle.table.specs.Check.{Few};
 ghost use Rattle.replay.specs.Log.{wordsIn, sampleIn};
+ghost use Rattle.replay.specs.Held.{Held, Kept};
 
-// What became of an entry: 0 it was taken, 1 there is none, 2 the replay stops.
-const TAKEN: u8 = 0;
+// How a log stands: its next entry is to be taken, or it stopped, at its end or within.
+pub const GOING: u8 = 0;
 
-const NONE: u8 = 1;
+pub const ENDED: u8 = 1;
 
-const STOPPED: u8 = 2;
+pub const CUT: u8 = 2;
 
-fn cut(entry: u64) -> u8 {
-    say_head(b"entry", entry);
-    say(b"the log ends within it\n");
-    STOPPED
+pub const UNREAD: u8 = 3;
+
+pub const REFUSED: u8 = 4;
+
+pub const OF_NO_KIND: u8 = 5;
+
+// How often an illegal place's line is shown.
+pub const SHOWN: u32 = 10;
+
+// A log as it is taken.
+pub struct Log {
+    pub fd: i32,
+    // The points of its samples.
+    pub points: usize,
+    // The bytes of its buffer that were taken last are at .. from; from .. to were read only.
+    pub at: usize,
+    pub from: usize,
+    pub to: usize,
+    pub entry: u64,
+    pub state: u8,
+    // The refusal number, or the first word of an entry of no kind.
+    pub number: u32,
 }
 
-fn unknown(entry: u64, first: u32) -> u8 {
-    say_head(b"entry", entry);
-    say(b"its first word is ");
-    say_number(first as u64);
-    say(b", none of 0, 1, 2\n");
-    STOPPED
+fn new_log(fd: i32, points: usize) -> Log
+    requires { ⌜ points ≤ 16 ⌝ }
+    ensures { λ r. ⌜ Held r 0 ⌝ }
+{
+    Log {
+        fd: fd,
+        points: points,
+        at: 0,
+        from: 0,
+        to: 0,
+        entry: 0,
+        state: GOING,
+        number: 0,
+    }
 }
 
-fn unread(path: &[u8]) -> u8 {
-    cannot_read(path);
-    STOPPED
+fn stopped(log: Log, state: u8, number: u32) -> Log
+    ensures { λ r. ⌜ Kept log r ⌝ }
+{
+    let mut next = log;
+    next.state = state;
+    next.number = number;
+    next
 }
 
 // A call's number.
-fn outcome(entry: u64, number: u32) -> u8 {
+fn outcome(log: Log, number: u32) -> Log
+    ensures { λ r. ⌜ Kept log r ⌝ }
+{
     if number == 0 {
-        return TAKEN;
+        return log;
     }
-    say_head(b"entry", entry);
-    say(b"refused with ");
-    say_refusal(number);
-    end_line();
-    STOPPED
+    stopped(log, REFUSED, number)
+}
+
+// How a log stands after a read of its bytes.
+fn state_after(got: Filled, want: usize) -> u8 {
+    if want <= got.count {
+        return GOING;
+    }
+    if got.failed {
+        return UNREAD;
+    }
+    CUT
+}
+
+fn moved(log: Log, at: usize, from: usize, to: usize, state: u8) -> Log
+    ensures { λ r. ⌜ (r .points ≡ log .points) × (r .at ≡ at) × (r .from ≡ from) × (r .to ≡ to) ⌝ }
+{
+    let mut next = log;
+    next.at = at;
+    next.from = from;
+    next.to = to;
+    next.state = state;
+    next
+}
+
+// Takes the next want bytes; fewer where the log ends or a read fails.
+fn take_bytes(bytes: &mut [u8], log: Log, want: usize) -> Log
+    requires { ⌜ Held log (length (now bytes)) ⌝ }
+    ensures { λ r. ⌜ Held r (length (now (bytes .exit))) ⌝ }
+{
+    let from = log.from;
+    let to = log.to;
+    if want <= to - from {
+        return moved(log, from, from + want, to, GOING);
+    }
+    let have = to_front(bytes, from, to);
+    let got = fill(bytes, log.fd, have, want);
+    let n = got.count;
+    moved(log, 0, least(want, n), n, state_after(got, want))
 }
 
 // The first n words of the bytes.
@@ -68,29 +132,39 @@ fn put_words(words: &mut [u32], bytes: &[u8], n: usize)
     }
 }
 
-fn say_raised(place: usize, sample: u32, entry: u64) {
-    say(b"illegal place ");
-    say_number(place as u64);
-    say(b" raised at sample ");
-    say_number(sample as u64);
-    say(b" (entry ");
-    say_number(entry);
-    say(b")\n");
+// The count of a place.
+pub fn count_of(register: &[u32], place: usize) -> u32 {
+    if place < 65536 {
+        return word(register, 2 + place);
+    }
+    0
 }
 
-fn is_illegal(kind: u8) -> bool {
+// The register was new when the log began: a place's count says how often it was raised.
+fn say_raised(out: &mut [u8], register: &[u32], raised: bool, place: usize, entry: u64) {
+    if !raised | (count_of(register, place) > SHOWN) {
+        return;
+    }
+    say(out, b"illegal place ");
+    say_number(out, place as u64);
+    say(out, b" raised at sample ");
+    say_number(out, word(register, 1) as u64);
+    say(out, b" (entry ");
+    say_number(out, entry);
+    say(out, b")\n");
+}
+
+pub fn is_illegal(kind: u8) -> bool {
     (kind == 2) | (kind == 4) | (kind == 6)
 }
 
 // The illegal places that the report names: it has a word for each illegal place, in order.
-fn say_illegals(report: &[u32], kinds: &[u8], places: usize, sample: u32, entry: u64) {
+fn say_illegals(out: &mut [u8], register: &[u32], report: &[u32], kinds: &[u8], entry: u64) {
     let mut at = 0;
     let mut place = 0;
-    while place < places {
+    while place < kinds.len() {
         if is_illegal(byte(kinds, place)) {
-            if word(report, at) != 0 {
-                say_raised(place, sample, entry);
-            }
+            say_raised(out, register, word(report, at) != 0, place, entry);
             at += 1;
         }
         place += 1;
@@ -117,107 +191,112 @@ fn give_sample(
 }
 
 fn take_sample(
+    out: &mut [u8],
     register: &mut [u32],
     report: &mut [u32],
     table: &[u8],
     kinds: &[u8],
-    f: Facts,
-    fd: i32,
-    path: &[u8],
-    entry: u64,
-) -> u8
-    requires { ⌜ Few f ⌝ }
+    bytes: &mut [u8],
+    log: Log,
+) -> Log
+    requires { ⌜ Held log (length (now bytes)) ⌝ }
+    ensures { λ r. ⌜ Held r (length (now (bytes .exit))) ⌝ }
 {
-    let mut bytes = [0u8; 144];
-    let points = f.points;
-    let want = 16 + 8 * points;
-    let got = fill(&mut bytes, fd, want);
-    if got.failed {
-        return unread(path);
+    let points = log.points;
+    let body = take_bytes(bytes, log, 16 + 8 * points);
+    if body.state != GOING {
+        return body;
     }
-    if got.count < want {
-        return cut(entry);
+    let at = body.at;
+    let from = body.from;
+    let number = give_sample(register, report, table, &bytes[at..from], points);
+    if number != 0 {
+        return stopped(body, REFUSED, number);
     }
-    let number = give_sample(register, report, table, &bytes, points);
-    if number == 0 {
-        say_illegals(report, kinds, f.counters, word(register, 1), entry);
-    }
-    outcome(entry, number)
+    say_illegals(out, register, report, kinds, body.entry);
+    body
 }
 
-// An entry by its first word.
-fn take_kind(
+// The log ends where an entry could begin.
+fn at_end(head: Log) -> Log
+    ensures { λ r. ⌜ Kept head r ⌝ }
+{
+    if (head.state == CUT) & (head.to == 0) {
+        return stopped(head, ENDED, 0);
+    }
+    head
+}
+
+// An entry: its first word says what it is.
+fn take_entry(
+    out: &mut [u8],
     register: &mut [u32],
     report: &mut [u32],
     table: &[u8],
     kinds: &[u8],
-    f: Facts,
-    fd: i32,
-    path: &[u8],
-    entry: u64,
-    first: u32,
-) -> u8
-    requires { ⌜ Few f ⌝ }
+    bytes: &mut [u8],
+    log: Log,
+) -> Log
+    requires { ⌜ Held log (length (now bytes)) ⌝ }
+    ensures { λ r. ⌜ Held r (length (now (bytes .exit))) ⌝ }
 {
+    let head = take_bytes(bytes, log, 4);
+    if head.state != GOING {
+        return at_end(head);
+    }
+    let at = head.at;
+    let from = head.from;
+    let first = read4(&bytes[at..from], 0);
     if first == 0 {
-        return take_sample(register, report, table, kinds, f, fd, path, entry);
+        return take_sample(out, register, report, table, kinds, bytes, head);
     }
     if first == 1 {
-        return outcome(entry, register::start(table, register));
+        return outcome(head, register::start(table, register));
     }
     if first == 2 {
-        return outcome(entry, register::stop(table, register));
+        return outcome(head, register::stop(table, register));
     }
-    unknown(entry, first)
+    stopped(head, OF_NO_KIND, first)
 }
 
-fn take_entry(
+// Entries, until the log stops.
+fn take_entries(
+    out: &mut [u8],
     register: &mut [u32],
     report: &mut [u32],
     table: &[u8],
     kinds: &[u8],
-    f: Facts,
-    fd: i32,
-    path: &[u8],
-    entry: u64,
-) -> u8
-    requires { ⌜ Few f ⌝ }
+    bytes: &mut [u8],
+    log: Log,
+) -> Log
+    requires { ⌜ Held log (length (now bytes)) ⌝ }
 {
-    let mut bytes = [0u8; 4];
-    let got = fill(&mut bytes, fd, 4);
-    if got.failed {
-        return unread(path);
-    }
-    let n = got.count;
-    if n == 0 {
-        return NONE;
-    }
-    if n < 4 {
-        return cut(entry);
-    }
-    let first = read4(&bytes, 0);
-    take_kind(register, report, table, kinds, f, fd, path, entry, first)
-}
-
-// All entries; true at the log's end.
-pub fn take_all(
-    register: &mut [u32],
-    report: &mut [u32],
-    table: &[u8],
-    kinds: &[u8],
-    f: Facts,
-    fd: i32,
-    path: &[u8],
-) -> bool
-    requires { ⌜ Few f ⌝ }
-{
+    let mut next = log;
     let mut entry: u64 = 0;
     while entry < 18446744073709551615 {
-        let came = take_entry(register, report, table, kinds, f, fd, path, entry);
-        if came != TAKEN {
-            return came == NONE;
+        next.entry = entry;
+        next = take_entry(out, register, report, table, kinds, bytes, next);
+        if next.state != GOING {
+            return next;
         }
         entry += 1;
     }
-    false
+    next
+}
+
+// The log of a file, with a register of the table; there is a kind for each place.
+pub fn take_all(
+    out: &mut [u8],
+    register: &mut [u32],
+    table: &[u8],
+    kinds: &[u8],
+    fd: i32,
+    points: usize,
+) -> Log
+    requires { ⌜ points ≤ 16 ⌝ }
+{
+    let mut report = [0u32; 12416];
+    let mut bytes = io::large_buffer();
+    let log = new_log(fd, points);
+    take_entries(out, register, &mut report, table, kinds, &mut bytes, log)
 }

@@ -1,9 +1,18 @@
-// Reading files whole or by parts: a read that fails is told from the end.
-use crate::text::end_line;
-use crate::text::say;
+// Reading files through a buffer: a read that fails is told from the end.
 ghost use Prim.Native.Nat.{_+_, _≤_};
-ghost use lib.ListN.{length};
+ghost use mathlib.Core.Path.{_≡_};
+ghost use lib.ListN.{length, take, drop};
 ghost use Rattle.io.specs.Counts.{Counts};
+ghost use Rattle.arrays.specs.Put.{put};
+
+// How often a read that a signal interrupts is tried before it counts as failed.
+const TRIES: u32 = 100000000;
+
+pub fn least(a: usize, b: usize) -> usize
+    ensures { λ r. ⌜ (r ≤ a) × (r ≤ b) ⌝ }
+{
+    if a < b { a } else { b }
+}
 
 // How many bytes came, and whether a read failed.
 pub struct Filled {
@@ -11,27 +20,39 @@ pub struct Filled {
     pub failed: bool,
 }
 
-// One read of the bytes from .. to.
-fn read_some(buf: &mut [u8], fd: i32, from: usize, to: usize) -> Filled
-    requires { ⌜ (from ≤ to) × (to ≤ length (now buf)) ⌝ }
-    ensures { λ r. ⌜ from + r .count ≤ to ⌝ }
+// One read: 0 bytes at the end, or where it failed.
+fn read_some(part: &mut [u8], fd: i32) -> Filled
+    ensures { λ r. ⌜ r .count ≤ length (now (part .exit)) ⌝ }
 {
-    let got = libc::read(fd, &mut buf[from..to]);
-    let n = io::count(got, &buf[from..to]);
+    let mut tries = 0;
+    while tries < TRIES {
+        let got = libc::read(fd, part);
+        if got >= 0 {
+            return Filled {
+                count: io::count(got, part),
+                failed: false,
+            };
+        }
+        if os::errno() != libc::EINTR {
+            break;
+        }
+        tries += 1;
+    }
     Filled {
-        count: n,
-        failed: got < 0,
+        count: 0,
+        failed: true,
     }
 }
 
-// Reads the first want bytes; fewer came only where the file ended or a read failed.
-pub fn fill(buf: &mut [u8], fd: i32, want: usize) -> Filled
-    requires { ⌜ want ≤ length (now buf) ⌝ }
+// Reads on behind the first have bytes until there are want, and more if they come at once; fewer
+// only where the file ended or a read failed.
+pub fn fill(buf: &mut [u8], fd: i32, have: usize, want: usize) -> Filled
+    requires { ⌜ have ≤ length (now buf) ⌝ }
     ensures { λ r. ⌜ Counts (r .count) (now (buf .exit)) ⌝ }
 {
-    let mut done = 0;
+    let mut done = have;
     while done < want {
-        let some = read_some(buf, fd, done, want);
+        let some = read_some(&mut buf[done..], fd);
         let n = some.count;
         if n == 0 {
             return Filled {
@@ -47,24 +68,17 @@ pub fn fill(buf: &mut [u8], fd: i32, want: usize) -> Filled
     }
 }
 
-fn say_error(error: i32) {
-    if error == libc::ENOENT {
-        say(b"no such file");
-    } else if error == libc::EISDIR {
-        say(b"it is a directory");
-    } else if error == libc::EACCES {
-        say(b"permission denied");
-    } else {
-        say(b"the system refuses");
+// Moves the bytes from .. to to the front, and answers how many they are.
+pub fn to_front(buf: &mut [u8], from: usize, to: usize) -> usize
+    requires { ⌜ (from ≤ to) × (to ≤ length (now buf)) ⌝ }
+    ensures { λ r. ⌜ from + r ≡ to ⌝ }
+    ensures { λ r. ⌜ now (buf .exit) ≡ put 0 (take r (drop from (now (buf .entry)))) (now (buf .entry)) ⌝ }
+{
+    let n = to - from;
+    let mut i = 0;
+    while i < n {
+        buf[i] = buf[from + i];
+        i += 1;
     }
-}
-
-// Just after a call that failed.
-pub fn cannot_read(path: &[u8]) {
-    let error = os::errno();
-    say(b"cannot read ");
-    say(path);
-    say(b": ");
-    say_error(error);
-    end_line();
+    n
 }

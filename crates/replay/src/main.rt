@@ -1,52 +1,56 @@
 // Replays a log of samples over a register and writes what it covered.
 mod entries;
+mod errors;
 mod files;
 mod help;
+mod out;
 mod report;
 mod text;
 
+use crate::entries::Log;
+use crate::entries::UNREAD;
 use crate::entries::take_all;
-use crate::files::cannot_read;
+use crate::errors::cannot_read;
 use crate::files::fill;
-use crate::help::is_help;
+use crate::help::first_is;
 use crate::help::say_help;
 use crate::help::say_usage;
-use crate::report::write_report;
+use crate::out::flush;
+use crate::out::say;
+use crate::report::say_ending;
+use crate::report::say_report;
 use crate::text::end_line;
-use crate::text::say;
 use crate::text::say_refusal;
 use sampling::put_kinds;
 use table::answer::Facts;
 use table::facts;
 ghost use mathlib.Core.Path.{_≡_};
 ghost use mathlib.Core.Bool.{true};
+ghost use Prim.Native.Nat.{_≤_};
 ghost use Rattle.model.specs.Format.{accepted};
 ghost use Rattle.table.specs.Check.{Few};
 
-fn no_table() {
-    say(b"no report\n");
-}
-
-fn no_log() {
-    say(b"no report: the log was not taken to its end\n");
-}
-
-// Takes the log's entries with a new register, and writes the report if it came to the log's end.
-fn take_log(table: &[u8], kinds: &[u8], f: Facts, fd: i32, path: &[u8])
-    requires { ⌜ (accepted (now table) ≡ true) × Few f ⌝ }
-{
-    let mut register = [0u32; 14482];
-    let mut report = [0u32; 12416];
-    register::reset(table, &mut register);
-    if take_all(&mut register, &mut report, table, kinds, f, fd, path) {
-        write_report(table, &register, kinds, f);
-    } else {
-        no_log();
+// Just after the log was taken.
+fn tell_unread(log: Log, path: &[u8]) {
+    if log.state == UNREAD {
+        cannot_read(path);
     }
 }
 
+// Takes the log with a new register, and writes the report. There is a kind for each place.
+fn take_log(out: &mut [u8], table: &[u8], kinds: &[u8], points: usize, fd: i32, path: &[u8])
+    requires { ⌜ (accepted (now table) ≡ true) × (points ≤ 16) ⌝ }
+{
+    let mut register = [0u32; 14482];
+    register::reset(table, &mut register);
+    let log = take_all(out, &mut register, table, kinds, fd, points);
+    tell_unread(log, path);
+    say_report(out, table, &register, kinds, points);
+    say_ending(out, log);
+}
+
 // An accepted table, and the log.
-fn with_table(table: &[u8], f: Facts, path: &[u8])
+fn with_table(out: &mut [u8], table: &[u8], f: Facts, path: &[u8])
     requires { ⌜ (accepted (now table) ≡ true) × Few f ⌝ }
 {
     let mut kinds = [0u8; 12416];
@@ -54,82 +58,100 @@ fn with_table(table: &[u8], f: Facts, path: &[u8])
     let fd = os::open_read(path);
     if fd < 0 {
         cannot_read(path);
-        no_log();
+        say(out, b"no report: log not opened\n");
         return;
     }
-    take_log(table, &kinds, f, fd, path);
+    let places = f.counters;
+    take_log(out, table, &kinds[..places], f.points, fd, path);
     libc::close(fd);
 }
 
-fn refuse_table(number: u32) {
-    say(b"table refused with ");
-    say_refusal(number);
-    end_line();
-    no_table();
+fn refuse_table(out: &mut [u8], number: u32) {
+    say(out, b"no report: table refused: ");
+    say_refusal(out, number);
+    end_line(out);
 }
 
 // A table's bytes, and the log.
-fn with_bytes(table: &[u8], path: &[u8]) {
+fn with_bytes(out: &mut [u8], table: &[u8], path: &[u8]) {
     let f = facts(table);
     let number = f.number;
     if number != 0 {
-        refuse_table(number);
+        refuse_table(out, number);
         return;
     }
-    with_table(table, f, path);
+    with_table(out, table, f, path);
+}
+
+// Just after a call that failed.
+fn no_table(out: &mut [u8], path: &[u8]) {
+    cannot_read(path);
+    say(out, b"no report: table not read\n");
 }
 
 // A table of more than 65,536 bytes shows by one byte more.
-fn with_file(fd: i32, table: &[u8], log: &[u8]) {
+fn with_file(out: &mut [u8], fd: i32, table: &[u8], log: &[u8]) {
     let mut bytes = [0u8; 65537];
-    let got = fill(&mut bytes, fd, 65537);
+    let got = fill(&mut bytes, fd, 0, 65537);
     if got.failed {
-        cannot_read(table);
-        no_table();
+        no_table(out, table);
         return;
     }
     let n = got.count;
-    with_bytes(&bytes[..n], log);
+    with_bytes(out, &bytes[..n], log);
 }
 
-fn replay(table: &[u8], log: &[u8]) {
+fn replay(out: &mut [u8], table: &[u8], log: &[u8]) {
     let fd = os::open_read(table);
     if fd < 0 {
-        cannot_read(table);
-        no_table();
+        no_table(out, table);
         return;
     }
-    with_file(fd, table, log);
+    with_file(out, fd, table, log);
     libc::close(fd);
 }
 
+// Just after a name that its buffer does not hold.
+fn refuse_name(out: &mut [u8], whose: &[u8]) {
+    os::fail(whose);
+    say(out, b"no report: a name is too long\n");
+}
+
 // The two names, each whole or not taken.
-fn with_names() {
+fn with_names(out: &mut [u8]) {
     let mut table = io::buffer();
     let n = os::arg(1, &mut table);
     if os::errno() != 0 {
-        say(b"the table's name is too long\n");
-        no_table();
+        refuse_name(out, b"replay: the table's name");
         return;
     }
     let mut log = io::buffer();
     let k = os::arg(2, &mut log);
     if os::errno() != 0 {
-        say(b"the log's name is too long\n");
-        no_log();
+        refuse_name(out, b"replay: the log's name");
         return;
     }
-    replay(&table[..n], &log[..k]);
+    replay(out, &table[..n], &log[..k]);
 }
 
-fn main() {
-    if is_help() {
-        say_help();
+fn run(out: &mut [u8]) {
+    if first_is(b"--help") | first_is(b"-h") {
+        say_help(out);
+        return;
+    }
+    if first_is(b"--version") | first_is(b"-V") {
+        say(out, b"replay 0.2.0\n");
         return;
     }
     if os::arg_count() != 3 {
         say_usage();
         return;
     }
-    with_names();
+    with_names(out);
+}
+
+fn main() {
+    let mut out = [0u8; 16384];
+    run(&mut out);
+    flush(&mut out);
 }

@@ -1,44 +1,50 @@
-use Prim.Native.Nat.{_-_, _≤_}
-use native.Mathlib.Omega.{arith}
 use mathlib.Core.Logic.{⊎-elim}
+use mathlib.Core.Path.{_≡_, ap}
+use Prim.Native.Nat.{_≤_, _-_}
+use native.Mathlib.Omega.{arith}
+use lib.ListN.{length}
+use borrow.Author.Needs.{needs}
 use Rattle.replay.proofs.entries.say_illegals.Statement.{statement}
 use Rattle.replay.proofs.entries.say_illegals.Tie as tie
 
 abbrev Inv-loop : tie.InvT-loop
-Inv-loop report kinds places sample entry at₀ place₀ at place = at ≤ place
+Inv-loop out₀ register report kinds entry at₀ place₀ out at place = (at ≤ place) × (length out ≡ length out₀)
 
 abbrev μ-loop : tie.MeasureT-loop
-μ-loop report kinds places sample entry at₀ place₀ at place = places - place
+μ-loop out₀ register report kinds entry at₀ place₀ out at place = length kinds - place
 
 loop-holds : tie.Need-loop-holds Inv-loop μ-loop
-loop-holds c = omega arith
+loop-holds c = search needs
 
 byte-requires : tie.Need-byte-requires Inv-loop μ-loop
-byte-requires c κs = tt
+byte-requires c κs = search needs
 
 is-illegal-requires : tie.Need-is-illegal-requires Inv-loop μ-loop
-is-illegal-requires c κs = tt
+is-illegal-requires c κs = search needs
 
 word-requires : tie.Need-word-requires Inv-loop μ-loop
-word-requires c κs = tt
+word-requires c κs = search needs
 
 say-raised-requires : tie.Need-say-raised-requires Inv-loop μ-loop
-say-raised-requires c κs = tt
+say-raised-requires c κs = search needs
 
 add-at : tie.Need-add-at Inv-loop μ-loop
-add-at c = omega arith
+add-at c = search needs
 
 add-place : tie.Need-add-place Inv-loop μ-loop
-add-place c = omega arith
+add-place c = search needs
 
 loop-less : tie.Need-loop-less Inv-loop μ-loop
-loop-less c = omega arith
+loop-less c = search needs
 
 loop-again : tie.Need-loop-again Inv-loop μ-loop
-loop-again c = ⊎-elim (λ w. omega arith) (λ w. omega arith) (c .if1 .came)
+loop-again c = ⊎-elim (λ w. omega (arith, ap length (w .6), w .3 .kept)) (λ w. omega (arith, ap length (w .1))) (c .if1 .came)
+
+same-length : tie.Need-same-length Inv-loop μ-loop
+same-length c = search needs
 
 returns : tie.Need-returns Inv-loop μ-loop
-returns c = tt
+returns c = search needs
 
 pub say-illegals-spec : {M : Type 1} → statement M
 say-illegals-spec =
@@ -55,4 +61,5 @@ say-illegals-spec =
     add-place
     loop-less
     loop-again
+    same-length
     returns)

@@ -1,31 +1,36 @@
+use mathlib.Core.Path.{_≡_}
 use Prim.Native.Nat.{_-_}
-use native.Mathlib.Omega.{arith}
+use lib.ListN.{length}
+use borrow.Author.Needs.{needs}
 use Rattle.replay.proofs.report.say_unknowns.Statement.{statement}
 use Rattle.replay.proofs.report.say_unknowns.Tie as tie
 
 abbrev Inv-loop : tie.InvT-loop
-Inv-loop table register points point₀ point = Unit {0}
+Inv-loop out₀ table register points point₀ out point = length out ≡ length out₀
 
 abbrev μ-loop : tie.MeasureT-loop
-μ-loop table register points point₀ point = points - point
+μ-loop out₀ table register points point₀ out point = points - point
 
 loop-holds : tie.Need-loop-holds Inv-loop μ-loop
-loop-holds c = tt
+loop-holds c = search needs
 
 say-unknown-requires : tie.Need-say-unknown-requires Inv-loop μ-loop
-say-unknown-requires c κs = tt
+say-unknown-requires c κs = search needs
 
 add-point : tie.Need-add-point Inv-loop μ-loop
-add-point c = omega arith
+add-point c = search needs
 
 loop-less : tie.Need-loop-less Inv-loop μ-loop
-loop-less c = omega arith
+loop-less c = search needs
 
 loop-again : tie.Need-loop-again Inv-loop μ-loop
-loop-again c = tt
+loop-again c = search needs
+
+same-length : tie.Need-same-length Inv-loop μ-loop
+same-length c = search needs
 
 returns : tie.Need-returns Inv-loop μ-loop
-returns c = tt
+returns c = search needs
 
 pub say-unknowns-spec : {M : Type 1} → statement M
 say-unknowns-spec =
@@ -38,4 +43,5 @@ say-unknowns-spec =
     add-point
     loop-less
     loop-again
+    same-length
     returns)
