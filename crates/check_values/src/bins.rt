@@ -7,6 +7,7 @@ use words::counts::section_count;
 use words::guards::bin_guard_ok;
 use words::verdicts::Verdict;
 use words::verdicts::fault;
+use words::verdicts::pick;
 use words::verdicts::sound;
 use words::verdicts::test;
 ghost use mathlib.Core.Path.{_≡_};
@@ -19,12 +20,6 @@ ghost use Rattle.model.specs.Lists.{any};
 ghost use Rattle.model.specs.Format.{firstDefault, binHead, binRules, readBinHeads, readBinSection};
 ghost use Rattle.words.specs.Verdicts.{verdict, verdictOf, verdictIn};
 ghost use Rattle.check_values.specs.Places.{defaultsUpTo, fieldsAt, readBin, isDefaultOf};
-
-fn pick(c: bool, a: bool, b: bool) -> bool
-    ensures { λ r. ⌜ r ≡ cond c a b ⌝ }
-{
-    if c { a } else { b }
-}
 
 // Whether the bin at at is a default of point p.
 fn default_at(t: &[u8], at: usize, p: u8) -> bool

@@ -34,35 +34,25 @@ verdict-in-append [] ys f = refl
 verdict-in-append ((true, class, at) ∷ xs) ys f = verdict-in-append xs ys f
 verdict-in-append ((false, class, at) ∷ xs) ys f = refl
 
--- whether all tests pass, joined from the first on
-unfoldable pub passingWith : Bool → List Test → Bool
-passingWith ok [] = ok
-passingWith ok ((passes, class, at) ∷ tests) = passingWith (ok && passes) tests
+-- whether ok holds and all tests pass
+unfoldable pub passing : Bool → List Test → Bool
+passing ok [] = ok
+passing ok ((passes, class, at) ∷ tests) = passing (ok && passes) tests
 
-unfoldable pub passing : List Test → Bool
-passing [] = true
-passing ((passes, class, at) ∷ tests) = passingWith passes tests
+not-passing : (tests : List Test) → passing false tests ≡ true → ⊥
+unfolding passing
+not-passing [] e = false-true e
+not-passing ((passes, class, at) ∷ tests) e = not-passing tests e
 
-with-false : (tests : List Test) → passingWith false tests ≡ true → ⊥
-unfolding passingWith
-with-false [] e = false-true e
-with-false ((passes, class, at) ∷ tests) e = with-false tests e
-
-with-passed : (ok : Bool) (tests : List Test) (rest : Verdict) → passingWith ok tests ≡ true → (ok ≡ true) × (verdictIn tests rest ≡ rest)
-unfolding passingWith verdictIn
-with-passed true [] rest e = (refl, refl)
-with-passed true ((true, class, at) ∷ tests) rest e = with-passed true tests rest e
-with-passed true ((false, class, at) ∷ tests) rest e = absurd (with-false tests e)
-with-passed false tests rest e = absurd (with-false tests e)
+verdict-passing : (tests : List Test) (rest : Verdict) → passing true tests ≡ true → verdictIn tests rest ≡ rest
+unfolding passing verdictIn
+verdict-passing [] rest e = refl
+verdict-passing ((true, class, at) ∷ tests) rest e = verdict-passing tests rest e
+verdict-passing ((false, class, at) ∷ tests) rest e = absurd (not-passing tests e)
 
 -- where all tests pass, the verdict is what comes after them
-pub passed : (tests : List Test) (rest r : Verdict) (ok : Bool) → r ≡ rest → ok ≡ true → ok ≡ passing tests → r ≡ verdictIn tests rest
-passed tests rest r ok e t h = e ∙ sym (go tests (sym h ∙ t))
-  where
-    go : (tests : List Test) → passing tests ≡ true → verdictIn tests rest ≡ rest
-    go [] e = unfold verdictIn in refl
-    go ((true, class, at) ∷ tests) e = unfold passing verdictIn in (with-passed true tests rest e .1)
-    go ((false, class, at) ∷ tests) e = unfold passing in absurd (with-false tests e)
+pub passed : (tests : List Test) (rest r : Verdict) (ok : Bool) → r ≡ rest → ok ≡ true → ok ≡ passing true tests → r ≡ verdictIn tests rest
+passed tests rest r ok e t h = e ∙ sym (verdict-passing tests rest (sym h ∙ t))
 
 -- one of two tests
 pub verdict-in-choice : (b : Bool) (x y : Test) (tests : List Test) (f : Verdict)

@@ -38,3 +38,10 @@ pub fn choose(c: bool, a: Verdict, b: Verdict) -> Verdict
 {
     if c { a } else { b }
 }
+
+// One of two answers.
+pub fn pick(c: bool, a: bool, b: bool) -> bool
+    ensures { λ r. ⌜ r ≡ cond c a b ⌝ }
+{
+    if c { a } else { b }
+}

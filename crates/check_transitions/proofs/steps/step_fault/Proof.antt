@@ -1,6 +1,6 @@
 use Rattle.model.specs.Format.{readStep}
 use Rattle.words.specs.Verdicts.{verdictIn}
-use Rattle.words.proofs.Laws.{passingWith, passing, passed, record-cut, record-whole}
+use Rattle.words.proofs.Laws.{passing, passed, record-cut, record-whole}
 use borrow.Author.Needs.{needs}
 use Rattle.check_transitions.proofs.steps.step_fault.Statement.{statement}
 use Rattle.check_transitions.proofs.steps.step_fault.Tie as tie
@@ -34,7 +34,7 @@ sound-requires : tie.Need-sound-requires
 sound-requires c κs = search needs
 
 returns-2 : tie.Need-returns-2
-unfolding readStep passing passingWith
+unfolding readStep passing
 returns-2 c = record-whole _ _ _ _ _ _ (search needs) (passed _ _ _ _ (c .sound .ensures) (c .before .if2 .taken) (rw (c .before .before .inside3 .ensures, c .before .before .before .inside2 .ensures, c .before .before .before .before .inside .ensures)))
 
 add-test : tie.Need-add-test

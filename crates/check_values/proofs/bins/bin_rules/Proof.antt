@@ -1,6 +1,6 @@
 use native.Mathlib.Omega.{arith}
 use Rattle.words.specs.Verdicts.{verdictIn}
-use Rattle.words.proofs.Laws.{passingWith, passing, passed}
+use Rattle.words.proofs.Laws.{passing, passed}
 use Rattle.model.specs.Format.{binRules}
 use borrow.Author.Needs.{needs}
 use Rattle.check_values.proofs.bins.bin_rules.Statement.{statement}
@@ -22,7 +22,7 @@ pick-requires : tie.Need-pick-requires
 pick-requires c κs = search needs
 
 returns : tie.Need-returns
-unfolding binRules passing passingWith
+unfolding binRules passing
 returns c = passed _ _ _ _ (c .before .before .before .before .sound .ensures) (c .if1 .taken) (rw (c .before .pick .ensures, c .before .before .bin-guard-ok .ensures))
 
 test-requires : tie.Need-test-requires
