@@ -9,13 +9,13 @@ use native.Mathlib.Omega.{arith}
 use lib.Dec.{eqb}
 use Rattle.model.specs.Table.{Point}
 use Rattle.model.specs.Values.{lowest}
-use Rattle.model.specs.Format.{byte, valueTests, patternTests, rangeRules, pointRecord}
+use Rattle.model.specs.Format.{byte, valueTests, patternTests, rangeRules, readRange, pointRecord}
 use Rattle.ranges.specs.Types.{typed, powerOf, lowestOf}
 
 -- a point's type is its width and its sign
-pub range-typed : (p : Point) (patterns : Bool) (kind a b at : ℕ) → rangeRules p patterns kind a b at ≡ rangeRules (typed (p .width) (p .signed)) patterns kind a b at
-unfolding rangeRules valueTests patternTests
-range-typed p patterns kind a b at = refl
+pub range-typed : (s : List ℕ) (p : Point) (patterns : Bool) → readRange s p patterns ≡ readRange s (typed (p .width) (p .signed)) patterns
+unfolding readRange rangeRules valueTests patternTests
+range-typed s p patterns = refl
 
 pub power-half : (width : ℕ) → width ≤ 32 → powerOf (width - 1) ≤ 2147483648
 unfolding powerOf

@@ -127,31 +127,36 @@ fn range_rules(
     test((kind == 1) & patterns & !signed, 6, at, p)
 }
 
-// The range at at, of the point whose record is at point.
-fn range_fault(t: &[u8], point: usize, patterns: bool, at: usize) -> Verdict
-    requires { ⌜ (at ≤ length (now t)) × (point ≤ 65536) × (length (now t) ≤ 65536) × Wide (now t) point ⌝ }
-    ensures { λ r. ⌜ r ≡ verdictOf (readRange (now (t .entry)) (pointRecord (now (t .entry)) point) patterns at) ⌝ }
+// The range at at, of a point of that type.
+fn range_fault(t: &[u8], width: u8, signed: bool, patterns: bool, at: usize) -> Verdict
+    requires { ⌜ (at ≤ length (now t)) × (length (now t) ≤ 65536) × (1 ≤ width) × (width ≤ 32) ⌝ }
+    ensures { λ r. ⌜ r ≡ verdictOf (readRange (now (t .entry)) (typed width signed) patterns at) ⌝ }
 {
     if t.len() < at + 17 {
         return fault(2, at);
     }
-    let width = byte(t, point);
-    let signed = byte(t, point + 1);
     let kind = inside(t, at);
     let a = whole8(t, at + 1);
     let b = whole8(t, at + 9);
-    range_rules(width, signed == 1, patterns, kind, a, b, at)
+    range_rules(width, signed, patterns, kind, a, b, at)
 }
 
 // n ranges from start on.
-pub fn ranges_of(t: &[u8], point: usize, patterns: bool, n: usize, start: usize) -> Verdict
-    requires { ⌜ (start ≤ length (now t)) × (point ≤ 65536) × (length (now t) ≤ 65536) × Wide (now t) point ⌝ }
-    ensures { λ r. ⌜ r ≡ verdictOf (times n (readRange (now (t .entry)) (pointRecord (now (t .entry)) point) patterns) start) ⌝ }
+fn typed_ranges(
+    t: &[u8],
+    width: u8,
+    signed: bool,
+    patterns: bool,
+    n: usize,
+    start: usize,
+) -> Verdict
+    requires { ⌜ (start ≤ length (now t)) × (length (now t) ≤ 65536) × (1 ≤ width) × (width ≤ 32) ⌝ }
+    ensures { λ r. ⌜ r ≡ verdictOf (times n (readRange (now (t .entry)) (typed width signed) patterns) start) ⌝ }
 {
     let mut at = start;
     let mut i = 0;
     while i < n {
-        let r = range_fault(t, point, patterns, at);
+        let r = range_fault(t, width, signed, patterns, at);
         if r.class != 0 {
             return r;
         }
@@ -159,4 +164,14 @@ pub fn ranges_of(t: &[u8], point: usize, patterns: bool, n: usize, start: usize)
         i += 1;
     }
     sound(at)
+}
+
+// The same of the point whose record is at point.
+pub fn ranges_of(t: &[u8], point: usize, patterns: bool, n: usize, start: usize) -> Verdict
+    requires { ⌜ (start ≤ length (now t)) × (point ≤ 65536) × (length (now t) ≤ 65536) × Wide (now t) point ⌝ }
+    ensures { λ r. ⌜ r ≡ verdictOf (times n (readRange (now (t .entry)) (pointRecord (now (t .entry)) point) patterns) start) ⌝ }
+{
+    let width = byte(t, point);
+    let signed = byte(t, point + 1);
+    typed_ranges(t, width, signed == 1, patterns, n, start)
 }

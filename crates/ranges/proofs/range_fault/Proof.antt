@@ -1,6 +1,5 @@
 use Rattle.model.specs.Format.{readRange}
 use Rattle.words.proofs.Laws.{record-cut, record-whole}
-use Rattle.ranges.proofs.RangeLaws.{range-typed}
 use borrow.Author.Needs.{needs}
 use Rattle.ranges.proofs.range_fault.Statement.{statement}
 use Rattle.ranges.proofs.range_fault.Tie as tie
@@ -14,15 +13,6 @@ fault-requires c κs = search needs
 returns : tie.Need-returns
 unfolding readRange
 returns c = record-cut _ _ _ _ _ _ (c .before .if1 .taken) (c .fault .ensures)
-
-byte-requires : tie.Need-byte-requires
-byte-requires c κs = search needs
-
-add-byte : tie.Need-add-byte
-add-byte c = search needs
-
-byte-requires-2 : tie.Need-byte-requires-2
-byte-requires-2 c κs = search needs
 
 inside-requires : tie.Need-inside-requires
 inside-requires c κs = search needs
@@ -44,7 +34,7 @@ range-rules-requires c κs = search needs
 
 returns-2 : tie.Need-returns-2
 unfolding readRange
-returns-2 c = record-whole _ _ _ _ _ _ (search needs) (rw (range-typed, c .range-rules .ensures, c .before .whole82 .ensures, c .before .before .whole8 .ensures, c .before .before .before .inside .ensures, c .before .before .before .before .byte2 .ensures, c .before .before .before .before .before .byte .ensures))
+returns-2 c = record-whole _ _ _ _ _ _ (search needs) (rw (c .range-rules .ensures, c .before .whole82 .ensures, c .before .before .whole8 .ensures, c .before .before .before .inside .ensures))
 
 pub range-fault-spec : {M : Type 1} → statement M
 range-fault-spec =
@@ -53,9 +43,6 @@ range-fault-spec =
     add-if1
     fault-requires
     returns
-    byte-requires
-    add-byte
-    byte-requires-2
     inside-requires
     add-whole8
     whole8-requires
