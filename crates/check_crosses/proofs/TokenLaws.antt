@@ -13,16 +13,16 @@ use borrow.Author.Needs.{needs}
 use borrow.Author.Tests.{ltb-true, ltb-false, eqb-true, lt-leb, le-leb, eq-eqb}
 use Rattle.model.specs.Lists.{upFrom}
 use Rattle.model.specs.Table.{Point, Select, negated, noPoint, isCover}
-use Rattle.model.specs.Format.{Test, field, unused, disagreement, byte, u16, u64, pointRecord, BinHead, binHead, noBinHead, valueTests, crossPoints, coverBinOf, tokenRules, tokenTests, tokenRecord, tokenFrom, readToken, Token, leaf, notToken, andToken, orToken, isLeaf, withToken, expressions}
+use Rattle.model.specs.Format.{Test, field, unused, disagreement, byte, u16, u64, pointRecord, BinHead, binHead, noBinHead, valueTests, crossPoints, coverBinOf, tokenRules, tokenTests, tokenRecord, tokenFrom, Token, leaf, notToken, andToken, orToken, isLeaf, withToken, expressions}
 use Rattle.model.specs.Raw.{rows, pointsAt}
 use Rattle.model.specs.Values.{fieldValue}
 use Rattle.model.proofs.Booleans.{false-true, or-false-right}
 use Rattle.model.proofs.RawLaws.{length-rows, getD-rows}
-use Rattle.words.specs.Verdicts.{verdict, verdictOf, verdictIn, unlessOk}
+use Rattle.words.specs.Verdicts.{verdict, verdictIn, unlessOk}
 use Rattle.words.specs.declared.verdicts.Verdict.{Verdict}
 use Rattle.model.proofs.Fields.{cover-kind}
 use Rattle.model.proofs.Lists.{none-left, one-left, length-row, getD-row}
-use Rattle.words.proofs.Laws.{verdict-record}
+use Rattle.words.proofs.Laws.{passing, passed}
 use Rattle.ranges.specs.Types.{typed}
 use Rattle.check_crosses.specs.Crosses.{CrossOk, valueFields, found, wantedAfter, lacks}
 use Rattle.words.proofs.Laws.{verdict-in-append, verdict-in-choice}
@@ -101,27 +101,62 @@ verdict-token-rules parts p op position b lo hi names at f =
     named : List Test
     named = (not (eqb op 1) || names, disagreement, at) ∷ []
 
--- a point's type is its width and its sign
-pub token-typed : (parts : ℕ) (p : Point) (op position b lo hi : ℕ) (names : Bool) (at : ℕ)
-    → tokenRules parts p op position b lo hi names at ≡ tokenRules parts (typed (p .width) (p .signed)) op position b lo hi names at
-unfolding tokenRules valueTests
-token-typed parts p op position b lo hi names at = refl
-
-pub verdict-token : (s : List ℕ) (points np bins nb c at : ℕ) → CrossOk s np c
-    → verdictOf (readToken s (pointsAt s points np) (rows (binHead s) 8 bins nb) (crossPoints s c) at)
-    ≡ unlessOk (leb (at + 20) (length s)) 2 at (verdictIn (tokenRules (byte s c) (pointRecord s (points + 11 * getD (crossPoints s c) (byte s (at + 1)) 0)) (byte s at) (byte s (at + 1)) (u16 s (at + 2)) (u64 s (at + 4)) (u64 s (at + 12))
-    (coverBinOf (rows (binHead s) 8 bins nb) (getD (crossPoints s c) (byte s (at + 1)) 0) (u16 s (at + 2))) at) (verdict 0 (at + 20)))
-unfolding readToken
-verdict-token s points np bins nb c at h =
-    let p = getD (crossPoints s c) (byte s (at + 1)) 0 in
-    verdict-record s 20 (tokenTests s (pointsAt s points np) (rows (binHead s) 8 bins nb) (crossPoints s c)) (tokenRecord s) at
-    ∙ ap (λ (n : ℕ). with n (getD (pointsAt s points np) p noPoint)) (length-row (λ i. byte s (c + 1 + i)) 0 (byte s c))
-    ∙ ap (with (byte s c)) (getD-rows (pointRecord s) 11 points np p noPoint (point-known s np c (byte s (at + 1)) h))
+-- where those on op, position and bin pass, the others are left
+pub token-passed : (parts : ℕ) (p : Point) (op position b lo hi : ℕ) (names : Bool) (at : ℕ) (f r : Verdict) (ok : Bool)
+    → r ≡ verdictIn (valueFields p op lo hi at) (unlessOk (not (eqb op 1) || names) 7 at f) → ok ≡ true
+    → ok ≡ ((leb op 5 && cond (leb op 2) (ltb position parts) (eqb position 0)) && (eqb op 1 || eqb b 0)) → r ≡ verdictIn (tokenRules parts p op position b lo hi names at) f
+unfolding verdictIn passing
+token-passed parts p op position b lo hi names at f r ok e t h =
+    e ∙ go (leb op 2) (sym h ∙ t) ∙ sym (verdict-token-rules parts p op position b lo hi names at f)
   where
-    with : ℕ → Point → Verdict
-    with n q =
-        unlessOk (leb (at + 20) (length s)) 2 at (verdictIn (tokenRules n q (byte s at) (byte s (at + 1)) (u16 s (at + 2)) (u64 s (at + 4)) (u64 s (at + 12))
-        (coverBinOf (rows (binHead s) 8 bins nb) (getD (crossPoints s c) (byte s (at + 1)) 0) (u16 s (at + 2))) at) (verdict 0 (at + 20)))
+    rest : Verdict
+    rest = verdictIn (valueFields p op lo hi at) (unlessOk (not (eqb op 1) || names) 7 at f)
+
+    plain : Bool
+    plain = eqb op 1 || eqb b 0
+
+    go : (leaf : Bool) → ((leb op 5 && cond leaf (ltb position parts) (eqb position 0)) && plain) ≡ true
+        → rest ≡ unlessOk (leb op 5) 6 at (cond leaf (unlessOk (ltb position parts) 6 (at + 1) (unlessOk plain 5 (at + 2) rest)) (unlessOk (eqb position 0) 5 (at + 1) (unlessOk plain 5 (at + 2) rest)))
+    go true e = passed ((leb op 5, field, at) ∷ (ltb position parts, field, at + 1) ∷ (plain, unused, at + 2) ∷ []) rest rest _ refl e refl
+    go false e = passed ((leb op 5, field, at) ∷ (eqb position 0, unused, at + 1) ∷ (plain, unused, at + 2) ∷ []) rest rest _ refl e refl
+
+-- a point's type is its width and its sign
+pub values-typed : (p : Point) (a b at : ℕ) → valueTests p a b at ≡ valueTests (typed (p .width) (p .signed)) a b at
+unfolding valueTests
+values-typed p a b at = refl
+
+-- whether it names a cover bin counts only where it names a bin
+pub token-named : (parts : ℕ) (p : Point) (op position b lo hi : ℕ) (names : Bool) (at : ℕ)
+    → tokenRules parts p op position b lo hi (not (eqb op 1) || names) at ≡ tokenRules parts p op position b lo hi names at
+unfolding tokenRules
+token-named parts p op position b lo hi names at = go (eqb op 1)
+  where
+    tests : Bool → List Test
+    tests x =
+        (leb op 5, field, at)
+        ∷ cond (leb op 2) (ltb position parts, field, at + 1) (eqb position 0, unused, at + 1)
+        ∷ (eqb op 1 || eqb b 0, unused, at + 2)
+        ∷ cond (eqb op 2) (valueTests p lo hi (at + 4)) ((eqb lo 0, unused, at + 4) ∷ (eqb hi 0, unused, at + 12) ∷ [])
+        ++ (x, disagreement, at)
+        ∷ []
+
+    go : (one : Bool) → tests (not one || (not one || names)) ≡ tests (not one || names)
+    go true = refl
+    go false = refl
+
+-- the tests of the token at `at` of the cross at c, by its fields
+pub token-tests : (s : List ℕ) (points np bins nb c at : ℕ) → CrossOk s np c
+    → tokenTests s (pointsAt s points np) (rows (binHead s) 8 bins nb) (crossPoints s c) at
+    ≡ tokenRules (byte s c) (pointRecord s (points + 11 * getD (crossPoints s c) (byte s (at + 1)) 0)) (byte s at) (byte s (at + 1)) (u16 s (at + 2)) (u64 s (at + 4)) (u64 s (at + 12))
+    (coverBinOf (rows (binHead s) 8 bins nb) (getD (crossPoints s c) (byte s (at + 1)) 0) (u16 s (at + 2))) at
+token-tests s points np bins nb c at h =
+    ap₂ with (length-row (λ i. byte s (c + 1 + i)) 0 (byte s c)) (getD-rows (pointRecord s) 11 points np p noPoint (point-known s np c (byte s (at + 1)) h))
+  where
+    p : ℕ
+    p = getD (crossPoints s c) (byte s (at + 1)) 0
+
+    with : ℕ → Point → List Test
+    with n q = tokenRules n q (byte s at) (byte s (at + 1)) (u16 s (at + 2)) (u64 s (at + 4)) (u64 s (at + 12)) (coverBinOf (rows (binHead s) 8 bins nb) p (u16 s (at + 2))) at
 
 -- ---- how many expressions
 

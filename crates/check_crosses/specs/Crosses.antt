@@ -7,7 +7,8 @@ use mathlib.Core.Option.{Option, none, some}
 use lib.Dec.{leb, ltb, eqb}
 use lib.ListN.{length}
 use Rattle.model.specs.Table.{Point, Select}
-use Rattle.model.specs.Format.{Test, field, unused, count, disagreement, byte, u32, guardOk, valueTests}
+use Rattle.model.specs.Format.{Test, field, unused, count, disagreement, byte, u16, u32, u64, guardOk, valueTests}
+use Rattle.check_crosses.specs.declared.tokens.Token.{Token}
 
 -- ---- crosses
 
@@ -40,6 +41,10 @@ abbrev pub CrossesOk : List ℕ → ℕ → ℕ → ℕ → Type 0
 CrossesOk s points c n = (i : ℕ) → i < n → CrossOk s points (c + 13 * i)
 
 -- ---- select tokens
+
+-- the fields of the token at `at`
+abbrev pub tokenAt : List ℕ → ℕ → Token
+tokenAt s at = record { op = byte s at; position = byte s (at + 1); bin = u16 s (at + 2); lo = u64 s (at + 4); hi = u64 s (at + 12) }
 
 -- the tests on lo and hi
 unfoldable pub valueFields : Point → ℕ → ℕ → ℕ → ℕ → List Test

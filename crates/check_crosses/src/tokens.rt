@@ -1,20 +1,25 @@
 // Section 10: the records of select tokens.
 use ranges::value_tests;
 use words::bytes::byte;
-use words::bytes::read2;
-use words::bytes::read8;
+use words::bytes::inside;
+use words::bytes::whole2;
+use words::bytes::whole8;
 use words::verdicts::Verdict;
 use words::verdicts::choose;
+use words::verdicts::fault;
+use words::verdicts::pick;
 use words::verdicts::sound;
 use words::verdicts::test;
 ghost use mathlib.Core.Path.{_≡_};
+ghost use mathlib.Core.Bool.{not, _||_};
 ghost use Prim.Native.Nat.{_+_, _*_, _≤_};
+ghost use lib.Dec.{eqb};
 ghost use lib.ListN.{length, getD};
-ghost use Rattle.model.specs.Format.{byte, u16, u64, pointRecord, binHead, crossPoints, coverBinOf, tokenRules, readToken, times};
+ghost use Rattle.model.specs.Format.{pointRecord, binHead, crossPoints, coverBinOf, tokenRules, readToken, times};
 ghost use Rattle.model.specs.Raw.{rows, pointsAt};
 ghost use Rattle.words.specs.Verdicts.{verdict, verdictOf, verdictIn};
-ghost use Rattle.ranges.specs.Types.{typed, Wide, AllWide};
-ghost use Rattle.check_crosses.specs.Crosses.{CrossOk, valueFields};
+ghost use Rattle.ranges.specs.Types.{Wide, AllWide};
+ghost use Rattle.check_crosses.specs.Crosses.{CrossOk, tokenAt, valueFields};
 
 // The point at a position of the cross at c; 0 past its points.
 fn point_of(t: &[u8], c: usize, position: u8) -> usize
@@ -38,89 +43,108 @@ fn cover_bin(t: &[u8], bins: usize, nb: usize, p: usize, b: usize) -> bool
     (b < nb) & (kind == 0) & (point == p)
 }
 
-// lo and hi: values where op is 2, else unused; then what rest says.
-fn value_fields(
-    width: u8,
-    signed: bool,
-    op: u8,
-    lo: u64,
-    hi: u64,
-    at: usize,
-    rest: Verdict,
-) -> Verdict
-    requires { ⌜ (1 ≤ width) × (width ≤ 32) × (at ≤ 65536) ⌝ }
-    ensures { λ r. ⌜ r ≡ verdictIn (valueFields (typed width signed) op lo hi at) rest ⌝ }
-{
-    let used = value_tests(width, signed, lo, hi, at + 4, rest);
-    let h = test(hi == 0, 5, at + 12, rest);
-    let l = test(lo == 0, 5, at + 4, h);
-    choose(op == 2, used, l)
-}
-
-fn token_rules(
-    parts: u8,
-    width: u8,
-    signed: bool,
+// The fields of a token.
+struct Token {
     op: u8,
     position: u8,
-    b: u16,
+    bin: u16,
     lo: u64,
     hi: u64,
-    names: bool,
-    at: usize,
-) -> Verdict
-    requires { ⌜ (1 ≤ width) × (width ≤ 32) × (at ≤ 65536) ⌝ }
-    ensures { λ r. ⌜ r ≡ verdictIn (tokenRules parts (typed width signed) op position b lo hi names at) (verdict 0 (at + 20)) ⌝ }
-{
-    let last = test(!(op == 1) | names, 7, at, sound(at + 20));
-    let values = value_fields(width, signed, op, lo, hi, at, last);
-    let bin = test((op == 1) | (b == 0), 5, at + 2, values);
-    let used = test(position < parts, 6, at + 1, bin);
-    let free = test(position == 0, 5, at + 1, bin);
-    let placed = choose(op <= 2, used, free);
-    test(op <= 5, 6, at, placed)
 }
 
-// The tests on the token at at, of a cross with so many points; the record of the point at its position is at point.
-fn token_fields(t: &[u8], parts: u8, point: usize, names: bool, at: usize) -> Verdict
-    requires { ⌜ (point ≤ 65536) × (at ≤ 65536) × Wide (now t) point ⌝ }
-    ensures { λ r. ⌜ r ≡ verdictIn (tokenRules parts (pointRecord (now (t .entry)) point) (byte (now (t .entry)) at) (byte (now (t .entry)) (at + 1)) (u16 (now (t .entry)) (at + 2)) (u64 (now (t .entry)) (at + 4)) (u64 (now (t .entry)) (at + 12)) names at) (verdict 0 (at + 20)) ⌝ }
+fn token_at(t: &[u8], at: usize) -> Token
+    requires { ⌜ (at + 20 ≤ length (now t)) × (length (now t) ≤ 65536) ⌝ }
+    ensures { λ r. ⌜ r ≡ tokenAt (now (t .entry)) at ⌝ }
 {
-    let width = byte(t, point);
-    let signed = byte(t, point + 1);
-    let op = byte(t, at);
-    let position = byte(t, at + 1);
-    let b = read2(t, at + 2);
-    let lo = read8(t, at + 4);
-    let hi = read8(t, at + 12);
-    token_rules(
-        parts,
-        width,
-        signed == 1,
-        op,
-        position,
-        b,
-        lo,
-        hi,
-        names,
-        at,
-    )
+    Token {
+        op: inside(t, at),
+        position: inside(t, at + 1),
+        bin: whole2(t, at + 2),
+        lo: whole8(t, at + 4),
+        hi: whole8(t, at + 12),
+    }
+}
+
+// Whether a token, if it names a bin, names a cover bin of point p.
+fn named(t: &[u8], bins: usize, nb: usize, p: usize, token: Token) -> bool
+    requires { ⌜ bins ≤ 65536 ⌝ }
+    ensures { λ r. ⌜ r ≡ (not (eqb (token .op) 1) || coverBinOf (rows (binHead (now (t .entry))) 8 bins nb) p (token .bin)) ⌝ }
+{
+    let op = token.op;
+    let b = token.bin as usize;
+    if op == 1 {
+        return cover_bin(t, bins, nb, p, b);
+    }
+    true
+}
+
+// lo and hi: values of the point whose record is at point where op is 2, else unused; then what rest says.
+fn value_fields(t: &[u8], point: usize, token: Token, at: usize, rest: Verdict) -> Verdict
+    requires { ⌜ (point ≤ 65536) × (at ≤ 65536) × Wide (now t) point ⌝ }
+    ensures { λ r. ⌜ r ≡ verdictIn (valueFields (pointRecord (now (t .entry)) point) (token .op) (token .lo) (token .hi) at) rest ⌝ }
+{
+    let op = token.op;
+    let lo = token.lo;
+    let hi = token.hi;
+    if op == 2 {
+        let width = byte(t, point);
+        let signed = byte(t, point + 1);
+        return value_tests(width, signed == 1, lo, hi, at + 4, rest);
+    }
+    let no_lo = lo == 0;
+    let no_hi = hi == 0;
+    if no_lo & no_hi {
+        return rest;
+    }
+    let h = test(no_hi, 5, at + 12, rest);
+    test(no_lo, 5, at + 4, h)
+}
+
+// The tests on a token at at, of a cross with so many points; the record of the point at its position is at point.
+fn token_rules(t: &[u8], parts: u8, point: usize, token: Token, names: bool, at: usize) -> Verdict
+    requires { ⌜ (point ≤ 65536) × (at ≤ 65536) × Wide (now t) point ⌝ }
+    ensures { λ r. ⌜ r ≡ verdictIn (tokenRules parts (pointRecord (now (t .entry)) point) (token .op) (token .position) (token .bin) (token .lo) (token .hi) names at) (verdict 0 (at + 20)) ⌝ }
+{
+    let op = token.op;
+    let position = token.position;
+    let known = op <= 5;
+    let used = position < parts;
+    let free = position == 0;
+    let placed = pick(op <= 2, used, free);
+    let plain = (op == 1) | (token.bin == 0);
+    let last = test(!(op == 1) | names, 7, at, sound(at + 20));
+    let values = value_fields(t, point, token, at, last);
+    if known & placed & plain {
+        return values;
+    }
+    let bin = test(plain, 5, at + 2, values);
+    let a = test(used, 6, at + 1, bin);
+    let b = test(free, 5, at + 1, bin);
+    test(known, 6, at, choose(op <= 2, a, b))
 }
 
 // The token at at, of the cross at c. points, bins: the places of the first of np points and of nb value bins.
-fn token(t: &[u8], points: usize, np: usize, bins: usize, nb: usize, c: usize, at: usize) -> Verdict
+fn token_fault(
+    t: &[u8],
+    points: usize,
+    np: usize,
+    bins: usize,
+    nb: usize,
+    c: usize,
+    at: usize,
+) -> Verdict
     requires { ⌜ (at ≤ length (now t)) × (length (now t) ≤ 65536) × (points + 11 * np ≤ length (now t)) × (bins ≤ 65536) × (c ≤ 65536) ⌝ }
     requires { ⌜ AllWide (now t) points np × CrossOk (now t) np c ⌝ }
     ensures { λ r. ⌜ r ≡ verdictOf (readToken (now (t .entry)) (pointsAt (now (t .entry)) points np) (rows (binHead (now (t .entry))) 8 bins nb) (crossPoints (now (t .entry)) c) at) ⌝ }
 {
-    let whole = at + 20 <= t.len();
+    if t.len() < at + 20 {
+        return fault(2, at);
+    }
     let parts = byte(t, c);
-    let position = byte(t, at + 1);
-    let p = point_of(t, c, position);
-    let b = read2(t, at + 2) as usize;
-    let names = cover_bin(t, bins, nb, p, b);
-    let rest = token_fields(t, parts, points + 11 * p, names, at);
-    test(whole, 2, at, rest)
+    let token = token_at(t, at);
+    let p = point_of(t, c, token.position);
+    let names = named(t, bins, nb, p, token);
+    token_rules(t, parts, points + 11 * p, token, names, at)
 }
 
 // n tokens from start on.
@@ -141,7 +165,7 @@ pub fn tokens(
     let mut at = start;
     let mut i = 0;
     while i < n {
-        let r = token(t, points, np, bins, nb, c, at);
+        let r = token_fault(t, points, np, bins, nb, c, at);
         if r.class != 0 {
             return r;
         }

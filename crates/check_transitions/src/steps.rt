@@ -1,8 +1,10 @@
 // Section 6: steps.
 use crate::sums::sum_bytes;
 use words::bytes::byte;
+use words::bytes::inside;
 use words::counts::owned_count;
 use words::verdicts::Verdict;
+use words::verdicts::fault;
 use words::verdicts::sound;
 use words::verdicts::test;
 ghost use mathlib.Core.Path.{_≡_};
@@ -17,15 +19,23 @@ fn step_fault(t: &[u8], at: usize) -> Verdict
     ensures { λ r. ⌜ r ≡ verdictOf (readStep (now (t .entry)) at) ⌝ }
 {
     let end = at + 3;
-    let whole = end <= t.len();
-    let ranges = byte(t, at);
-    let least = byte(t, at + 1);
-    let most = byte(t, at + 2);
-    let d = test(least <= most, 6, at + 2, sound(end));
-    let c = test((1 <= most) & (most <= 32), 6, at + 2, d);
-    let b = test((1 <= least) & (least <= 32), 6, at + 1, c);
-    let a = test(1 <= ranges, 3, at, b);
-    test(whole, 2, at, a)
+    if t.len() < end {
+        return fault(2, at);
+    }
+    let ranges = inside(t, at);
+    let least = inside(t, at + 1);
+    let most = inside(t, at + 2);
+    let some = 1 <= ranges;
+    let from = (1 <= least) & (least <= 32);
+    let to = (1 <= most) & (most <= 32);
+    let ordered = least <= most;
+    if some & from & to & ordered {
+        return sound(end);
+    }
+    let d = test(ordered, 6, at + 2, sound(end));
+    let c = test(to, 6, at + 2, d);
+    let b = test(from, 6, at + 1, c);
+    test(some, 3, at, b)
 }
 
 // n steps from start on, without what is asked of them together.

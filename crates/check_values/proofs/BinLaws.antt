@@ -12,10 +12,10 @@ use borrow.Author.Needs.{needs}
 use borrow.Author.Tests.{le-leb, lt-leb}
 use Rattle.model.specs.Lists.{any}
 use Rattle.model.specs.Table.{isDefault}
-use Rattle.model.specs.Format.{Read, got, andThen, byte, u16, BinHead, binHead, binRules, binTests, defaultsWith, firstDefault, readBinHeads}
-use Rattle.words.specs.Verdicts.{verdict, verdictOf, verdictIn, unlessOk}
+use Rattle.model.specs.Format.{Read, got, andThen, byte, BinHead, binHead, binTests, defaultsWith, firstDefault, readBinHeads}
+use Rattle.words.specs.Verdicts.{verdict, verdictOf}
 use Rattle.words.specs.declared.verdicts.Verdict.{Verdict}
-use Rattle.words.proofs.Laws.{verdict-record, verdict-stop, verdict-done, record-got, sound-record, class-of}
+use Rattle.words.proofs.Laws.{verdict-stop, verdict-done, record-got, sound-record, class-of}
 use Rattle.model.proofs.Fields.{default-kind}
 use Rattle.model.proofs.Lists.{none-left, one-left}
 use Rattle.check_values.specs.Places.{defaultsUpTo, readBin, isDefaultOf}
@@ -99,12 +99,3 @@ module _ (s : List ℕ) (base i k : ℕ) (kind : k ≡ byte s (base + 8 * i + 1)
   first-none h = rw (default-kind (byte s (base + 8 * i + 1)), ← kind, lt-leb 3 k h)
 
 pub ruleset firstDefaults = (needs, first-some, first-none)
-
-pub verdict-bin : (s : List ℕ) (points base i : ℕ)
-    → verdictOf (readBin s points base i (base + 8 * i))
-    ≡ unlessOk (leb (base + 8 * i + 8) (length s)) 2 (base + 8 * i)
-    (verdictIn (binRules points (byte s (base + 8 * i)) (byte s (base + 8 * i + 1)) (byte s (base + 8 * i + 2)) (u16 s (base + 8 * i + 3)) (byte s (base + 8 * i + 5)) (u16 s (base + 8 * i + 6))
-    (firstDefault (binHead s (base + 8 * i)) (defaultsUpTo s base i)) (base + 8 * i))
-    (verdict 0 (base + 8 * i + 8)))
-unfolding readBin
-verdict-bin s points base i = verdict-record s 8 (binTests s points (defaultsUpTo s base i)) (binHead s) (base + 8 * i)

@@ -4,13 +4,19 @@ use Prim.Native.Nat.{ℕ, zero, suc, _+_, _*_, _<_, _≤_}
 use mathlib.Core.Bool.{Bool, _&&_}
 use mathlib.Core.List.{List, []}
 use lib.Dec.{leb, eqb}
-use Rattle.model.specs.Format.{byte, Reader, readRecord, BinHead, binHead, binTests, defaultsWith}
+use Rattle.model.specs.Format.{byte, u16, Reader, readRecord, BinHead, binHead, binTests, defaultsWith}
 use Rattle.ranges.specs.Types.{Wide}
+use Rattle.check_values.specs.declared.bins.Bin.{Bin}
 
 -- the points with a default bin among the first i bins from `base` on
 unfoldable pub defaultsUpTo : List ℕ → ℕ → ℕ → List ℕ
 defaultsUpTo s base zero = []
 defaultsUpTo s base (suc i) = defaultsWith (binHead s (base + 8 * i)) (defaultsUpTo s base i)
+
+-- the fields of the bin at `at`
+abbrev pub fieldsAt : List ℕ → ℕ → Bin
+fieldsAt s at =
+    record { point = byte s at; kind = byte s (at + 1); form = byte s (at + 2); number = u16 s (at + 3); guard = byte s (at + 5); ranges = u16 s (at + 6) }
 
 -- bin i of those from `base` on
 unfoldable pub readBin : List ℕ → ℕ → ℕ → ℕ → Reader BinHead

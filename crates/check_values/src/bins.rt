@@ -1,9 +1,13 @@
 // Section 2: value bins.
 use words::bytes::byte;
+use words::bytes::inside;
 use words::bytes::read2;
+use words::bytes::whole2;
 use words::counts::section_count;
 use words::guards::bin_guard_ok;
 use words::verdicts::Verdict;
+use words::verdicts::fault;
+use words::verdicts::pick;
 use words::verdicts::sound;
 use words::verdicts::test;
 ghost use mathlib.Core.Path.{_≡_};
@@ -15,13 +19,7 @@ ghost use lib.ListN.{length};
 ghost use Rattle.model.specs.Lists.{any};
 ghost use Rattle.model.specs.Format.{firstDefault, binHead, binRules, readBinHeads, readBinSection};
 ghost use Rattle.words.specs.Verdicts.{verdict, verdictOf, verdictIn};
-ghost use Rattle.check_values.specs.Places.{defaultsUpTo, readBin, isDefaultOf};
-
-fn pick(c: bool, a: bool, b: bool) -> bool
-    ensures { λ r. ⌜ r ≡ cond c a b ⌝ }
-{
-    if c { a } else { b }
-}
+ghost use Rattle.check_values.specs.Places.{defaultsUpTo, fieldsAt, readBin, isDefaultOf};
 
 // Whether the bin at at is a default of point p.
 fn default_at(t: &[u8], at: usize, p: u8) -> bool
@@ -61,35 +59,60 @@ fn first_default(t: &[u8], base: usize, i: usize) -> bool
     }
 }
 
-// A bin's fields; first says that it is no second default.
-fn bin_rules(
-    points: usize,
-    point: usize,
+// The fields of a bin.
+struct Bin {
+    point: u8,
     kind: u8,
     form: u8,
     number: u16,
     guard: u8,
     ranges: u16,
-    first: bool,
-    at: usize,
-) -> Verdict
-    requires { ⌜ at ≤ 65536 ⌝ }
-    ensures { λ r. ⌜ r ≡ verdictIn (binRules points point kind form number guard ranges first at) (verdict 0 (at + 8)) ⌝ }
+}
+
+fn bin_at(t: &[u8], at: usize) -> Bin
+    requires { ⌜ (at + 8 ≤ length (now t)) × (length (now t) ≤ 65536) ⌝ }
+    ensures { λ r. ⌜ r ≡ fieldsAt (now (t .entry)) at ⌝ }
 {
-    let r9 = test(first, 7, at, sound(at + 8));
-    let r8 = test(pick(kind == 3, ranges == 0, 1 <= ranges), 3, at + 6, r9);
-    let r7 = test(bin_guard_ok(kind, guard), 6, at + 5, r8);
-    let r6 = test((form == 2) | (number == 0), 5, at + 3, r7);
-    let r5 = test(
-        !(form == 2) | ((1 <= number) & (number <= 256)),
-        6,
-        at + 3,
-        r6,
-    );
-    let r4 = test((kind == 0) | (form == 0), 6, at + 2, r5);
-    let r3 = test(form <= 2, 6, at + 2, r4);
-    let r2 = test(kind <= 3, 6, at + 1, r3);
-    test(point < points, 6, at, r2)
+    Bin {
+        point: inside(t, at),
+        kind: inside(t, at + 1),
+        form: inside(t, at + 2),
+        number: whole2(t, at + 3),
+        guard: inside(t, at + 5),
+        ranges: whole2(t, at + 6),
+    }
+}
+
+// The tests on a bin's fields; first says that it is no second default.
+fn bin_rules(points: usize, bin: Bin, first: bool, at: usize) -> Verdict
+    requires { ⌜ at ≤ 65536 ⌝ }
+    ensures { λ r. ⌜ r ≡ verdictIn (binRules points (bin .point) (bin .kind) (bin .form) (bin .number) (bin .guard) (bin .ranges) first at) (verdict 0 (at + 8)) ⌝ }
+{
+    let end = sound(at + 8);
+    let kind = bin.kind;
+    let form = bin.form;
+    let number = bin.number;
+    let ranges = bin.ranges;
+    let known = (bin.point as usize) < points;
+    let kinds = kind <= 3;
+    let forms = form <= 2;
+    let single = (kind == 0) | (form == 0);
+    let numbered = !(form == 2) | ((1 <= number) & (number <= 256));
+    let plain = (form == 2) | (number == 0);
+    let guarded = bin_guard_ok(kind, bin.guard);
+    let owns = pick(kind == 3, ranges == 0, 1 <= ranges);
+    if known & kinds & forms & single & numbered & plain & guarded & owns & first {
+        return end;
+    }
+    let r9 = test(first, 7, at, end);
+    let r8 = test(owns, 3, at + 6, r9);
+    let r7 = test(guarded, 6, at + 5, r8);
+    let r6 = test(plain, 5, at + 3, r7);
+    let r5 = test(numbered, 6, at + 3, r6);
+    let r4 = test(single, 6, at + 2, r5);
+    let r3 = test(forms, 6, at + 2, r4);
+    let r2 = test(kinds, 6, at + 1, r3);
+    test(known, 6, at, r2)
 }
 
 // Bin i of those from base on.
@@ -98,22 +121,12 @@ fn bin_fault(t: &[u8], points: usize, base: usize, i: usize) -> Verdict
     ensures { λ r. ⌜ r ≡ verdictOf (readBin (now (t .entry)) points base i (base + 8 * i)) ⌝ }
 {
     let at = base + 8 * i;
-    let whole = at + 8 <= t.len();
-    let number = read2(t, at + 3);
-    let ranges = read2(t, at + 6);
+    if t.len() < at + 8 {
+        return fault(2, at);
+    }
+    let bin = bin_at(t, at);
     let first = first_default(t, base, i);
-    let rest = bin_rules(
-        points,
-        byte(t, at) as usize,
-        byte(t, at + 1),
-        byte(t, at + 2),
-        number,
-        byte(t, at + 5),
-        ranges,
-        first,
-        at,
-    );
-    test(whole, 2, at, rest)
+    bin_rules(points, bin, first, at)
 }
 
 // n bins from base on.

@@ -3,28 +3,19 @@
 use Prim.Native.Nat.{ℕ, _+_, _-_, _≤_}
 use lib.Pow.{pow-mono}
 use mathlib.Core.Path.{_≡_, refl, ap₂, _∙_}
-use mathlib.Core.Bool.{Bool, true, false, cond}
+use mathlib.Core.Bool.{Bool}
 use mathlib.Core.List.{List}
 use native.Mathlib.Omega.{arith}
-use lib.Dec.{leb, eqb}
-use lib.ListN.{length}
+use lib.Dec.{eqb}
 use Rattle.model.specs.Table.{Point}
 use Rattle.model.specs.Values.{lowest}
-use Rattle.model.specs.Format.{Test, byte, u64, valueTests, patternTests, rangeRules, rangeTests, rangeRecord, readRange, pointRecord}
-use Rattle.words.specs.Verdicts.{verdict, verdictOf, verdictIn, unlessOk}
-use Rattle.words.specs.declared.verdicts.Verdict.{Verdict}
-use Rattle.words.proofs.Laws.{verdict-record}
+use Rattle.model.specs.Format.{byte, valueTests, patternTests, rangeRules, readRange, pointRecord}
 use Rattle.ranges.specs.Types.{typed, powerOf, lowestOf}
 
-pub verdict-in-cond : (b : Bool) (xs ys : List Test) (f : Verdict) → verdictIn (cond b xs ys) f ≡ cond b (verdictIn xs f) (verdictIn ys f)
-verdict-in-cond true xs ys f = refl
-verdict-in-cond false xs ys f = refl
-
-pub verdict-range : (s : List ℕ) (p : Point) (patterns : Bool) (at : ℕ)
-    → verdictOf (readRange s p patterns at)
-    ≡ unlessOk (leb (at + 17) (length s)) 2 at (verdictIn (rangeRules (typed (p .width) (p .signed)) patterns (byte s at) (u64 s (at + 1)) (u64 s (at + 9)) at) (verdict 0 (at + 17)))
+-- a point's type is its width and its sign
+pub range-typed : (s : List ℕ) (p : Point) (patterns : Bool) → readRange s p patterns ≡ readRange s (typed (p .width) (p .signed)) patterns
 unfolding readRange rangeRules valueTests patternTests
-verdict-range s p patterns at = verdict-record s 17 (rangeTests s p patterns) (rangeRecord s) at
+range-typed s p patterns = refl
 
 pub power-half : (width : ℕ) → width ≤ 32 → powerOf (width - 1) ≤ 2147483648
 unfolding powerOf

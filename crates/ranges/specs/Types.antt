@@ -5,8 +5,9 @@ use mathlib.Core.Bool.{Bool, true, false, cond}
 use mathlib.Core.List.{List}
 use mathlib.Core.Option.{none}
 use Rattle.model.specs.Table.{Point, Range, span, pattern}
-use Rattle.model.specs.Values.{fieldValue, inType}
+use Rattle.model.specs.Values.{fieldValue}
 use Rattle.model.specs.Format.{byte}
+use Rattle.ranges.specs.declared.Limits.{Limits}
 
 -- a point of a type
 abbrev pub typed : ℕ → Bool → Point
@@ -15,14 +16,14 @@ typed width signed = record { width = width; signed = signed; guard = none; weig
 unfoldable pub powerOf : ℕ → ℕ
 powerOf width = 2 ^ width
 
-unfoldable pub fits : ℕ → Bool → ℕ → Bool
-fits width signed v = inType (typed width signed) v
-
 unfoldable pub valueAt : ℕ → ℕ
 valueAt bits = fieldValue bits
 
 unfoldable pub lowestOf : ℕ → Bool → ℕ
 lowestOf width signed = cond signed (2 ^ 31 - powerOf (width - 1)) (2 ^ 31)
+
+unfoldable pub limitsOf : ℕ → Bool → Limits
+limitsOf width signed = record { low = lowestOf width signed; high = lowestOf width signed + powerOf width - 1 }
 
 -- the point whose record stands at `at` has a width from 1 to 32
 pub record Wide (s : List ℕ) (at : ℕ) : Type 0 where

@@ -5,18 +5,20 @@ pub mod sizes;
 pub mod taken;
 
 use words::bytes::byte;
-use words::bytes::read8;
+use words::bytes::inside;
+use words::bytes::whole8;
 use words::verdicts::Verdict;
-use words::verdicts::choose;
+use words::verdicts::fault;
 use words::verdicts::sound;
 use words::verdicts::test;
 ghost use mathlib.Core.Path.{_≡_};
 ghost use mathlib.Core.Bool.{true};
 ghost use Prim.Native.Nat.{ℕ, _+_, _≤_};
 ghost use lib.ListN.{length};
+ghost use Rattle.model.specs.Lists.{within};
 ghost use Rattle.model.specs.Format.{valueTests, patternTests, rangeRules, readRange, pointRecord, times};
 ghost use Rattle.words.specs.Verdicts.{verdict, verdictOf, verdictIn};
-ghost use Rattle.ranges.specs.Types.{typed, powerOf, fits, valueAt, lowestOf, Wide};
+ghost use Rattle.ranges.specs.Types.{typed, powerOf, limitsOf, valueAt, lowestOf, Wide};
 
 pub fn power(width: u8) -> u64
     requires { ⌜ width ≤ 32 ⌝ }
@@ -47,12 +49,27 @@ pub fn lowest(width: u8, signed: bool) -> u64
     if signed { half(width) } else { 2147483648 }
 }
 
-pub fn fits(width: u8, signed: bool, v: u64) -> bool
+// The lowest and the highest value of a type.
+struct Limits {
+    low: u64,
+    high: u64,
+}
+
+fn limits_of(width: u8, signed: bool) -> Limits
     requires { ⌜ (1 ≤ width) × (width ≤ 32) ⌝ }
-    ensures { λ r. ⌜ r ≡ fits width signed v ⌝ }
+    ensures { λ r. ⌜ r ≡ limitsOf width signed ⌝ }
 {
     let low = lowest(width, signed);
-    (low <= v) & (v <= low + power(width) - 1)
+    Limits {
+        low: low,
+        high: low + power(width) - 1,
+    }
+}
+
+fn fits(l: Limits, v: u64) -> bool
+    ensures { λ r. ⌜ r ≡ within (l .low) (l .high) v ⌝ }
+{
+    (l.low <= v) & (v <= l.high)
 }
 
 // Two i64 fields from at on; then what rest says.
@@ -60,11 +77,18 @@ pub fn value_tests(width: u8, signed: bool, a: u64, b: u64, at: usize, rest: Ver
     requires { ⌜ (1 ≤ width) × (width ≤ 32) × (at ≤ 100000) ⌝ }
     ensures { λ r. ⌜ r ≡ verdictIn (valueTests (typed width signed) a b at) rest ⌝ }
 {
+    let l = limits_of(width, signed);
     let va = value_at(a);
     let vb = value_at(b);
-    let r3 = test(va <= vb, 4, at + 8, rest);
-    let r2 = test(fits(width, signed, vb), 4, at + 8, r3);
-    test(fits(width, signed, va), 4, at, r2)
+    let first = fits(l, va);
+    let last = fits(l, vb);
+    let ordered = va <= vb;
+    if first & last & ordered {
+        return rest;
+    }
+    let r3 = test(ordered, 4, at + 8, rest);
+    let r2 = test(last, 4, at + 8, r3);
+    test(first, 4, at, r2)
 }
 
 fn pattern_tests(width: u8, signed: bool, a: u64, b: u64, at: usize, rest: Verdict) -> Verdict
@@ -72,9 +96,15 @@ fn pattern_tests(width: u8, signed: bool, a: u64, b: u64, at: usize, rest: Verdi
     ensures { λ r. ⌜ r ≡ verdictIn (patternTests (typed width signed) a b at) rest ⌝ }
 {
     let all = power(width);
-    let r3 = test(a & b == a, 4, at + 8, rest);
-    let r2 = test(b < all, 4, at + 8, r3);
-    test(a < all, 4, at, r2)
+    let bits = a < all;
+    let mask = b < all;
+    let masked = a & b == a;
+    if bits & mask & masked {
+        return rest;
+    }
+    let r3 = test(masked, 4, at + 8, rest);
+    let r2 = test(mask, 4, at + 8, r3);
+    test(bits, 4, at, r2)
 }
 
 fn range_rules(
@@ -90,41 +120,43 @@ fn range_rules(
     ensures { λ r. ⌜ r ≡ verdictIn (rangeRules (typed width signed) patterns kind a b at) (verdict 0 (at + 17)) ⌝ }
 {
     let end = sound(at + 17);
-    let v = value_tests(width, signed, a, b, at + 1, end);
+    if kind == 0 {
+        return value_tests(width, signed, a, b, at + 1, end);
+    }
     let p = pattern_tests(width, signed, a, b, at + 1, end);
-    let rest = choose(kind == 0, v, p);
-    test(
-        (kind == 0) | ((kind == 1) & patterns & !signed),
-        6,
-        at,
-        rest,
-    )
+    test((kind == 1) & patterns & !signed, 6, at, p)
 }
 
-// The range at at, of the point whose record is at point.
-fn range_fault(t: &[u8], point: usize, patterns: bool, at: usize) -> Verdict
-    requires { ⌜ (at ≤ length (now t)) × (point ≤ 65536) × (length (now t) ≤ 65536) × Wide (now t) point ⌝ }
-    ensures { λ r. ⌜ r ≡ verdictOf (readRange (now (t .entry)) (pointRecord (now (t .entry)) point) patterns at) ⌝ }
+// The range at at, of a point of that type.
+fn range_fault(t: &[u8], width: u8, signed: bool, patterns: bool, at: usize) -> Verdict
+    requires { ⌜ (at ≤ length (now t)) × (length (now t) ≤ 65536) × (1 ≤ width) × (width ≤ 32) ⌝ }
+    ensures { λ r. ⌜ r ≡ verdictOf (readRange (now (t .entry)) (typed width signed) patterns at) ⌝ }
 {
-    let whole = at + 17 <= t.len();
-    let width = byte(t, point);
-    let signed = byte(t, point + 1);
-    let kind = byte(t, at);
-    let a = read8(t, at + 1);
-    let b = read8(t, at + 9);
-    let rest = range_rules(width, signed == 1, patterns, kind, a, b, at);
-    test(whole, 2, at, rest)
+    if t.len() < at + 17 {
+        return fault(2, at);
+    }
+    let kind = inside(t, at);
+    let a = whole8(t, at + 1);
+    let b = whole8(t, at + 9);
+    range_rules(width, signed, patterns, kind, a, b, at)
 }
 
 // n ranges from start on.
-pub fn ranges_of(t: &[u8], point: usize, patterns: bool, n: usize, start: usize) -> Verdict
-    requires { ⌜ (start ≤ length (now t)) × (point ≤ 65536) × (length (now t) ≤ 65536) × Wide (now t) point ⌝ }
-    ensures { λ r. ⌜ r ≡ verdictOf (times n (readRange (now (t .entry)) (pointRecord (now (t .entry)) point) patterns) start) ⌝ }
+fn typed_ranges(
+    t: &[u8],
+    width: u8,
+    signed: bool,
+    patterns: bool,
+    n: usize,
+    start: usize,
+) -> Verdict
+    requires { ⌜ (start ≤ length (now t)) × (length (now t) ≤ 65536) × (1 ≤ width) × (width ≤ 32) ⌝ }
+    ensures { λ r. ⌜ r ≡ verdictOf (times n (readRange (now (t .entry)) (typed width signed) patterns) start) ⌝ }
 {
     let mut at = start;
     let mut i = 0;
     while i < n {
-        let r = range_fault(t, point, patterns, at);
+        let r = range_fault(t, width, signed, patterns, at);
         if r.class != 0 {
             return r;
         }
@@ -132,4 +164,14 @@ pub fn ranges_of(t: &[u8], point: usize, patterns: bool, n: usize, start: usize)
         i += 1;
     }
     sound(at)
+}
+
+// The same of the point whose record is at point.
+pub fn ranges_of(t: &[u8], point: usize, patterns: bool, n: usize, start: usize) -> Verdict
+    requires { ⌜ (start ≤ length (now t)) × (point ≤ 65536) × (length (now t) ≤ 65536) × Wide (now t) point ⌝ }
+    ensures { λ r. ⌜ r ≡ verdictOf (times n (readRange (now (t .entry)) (pointRecord (now (t .entry)) point) patterns) start) ⌝ }
+{
+    let width = byte(t, point);
+    let signed = byte(t, point + 1);
+    typed_ranges(t, width, signed == 1, patterns, n, start)
 }

@@ -114,15 +114,14 @@ pub fn check(t: &[u8]) -> Verdict
 }
 
 // The refusal number of a fault's class.
-pub fn number_for(class: u8) -> u32
+pub fn number_for(class: u32) -> u32
     ensures { λ r. ⌜ r ≡ numberFor class ⌝ }
 {
-    let n = class as u32;
-    if n <= 3 {
-        n
-    } else if n <= 6 {
+    if class <= 3 {
+        class
+    } else if class <= 6 {
         3
     } else {
-        n - 3
+        class - 3
     }
 }

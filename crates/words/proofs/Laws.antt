@@ -3,17 +3,18 @@
 -- Assumes nothing.
 use Prim.Native.Nat.{ℕ, zero, suc, _+_, _*_, _-_, _<_, _≤_}
 use mathlib.Core.Path.{_≡_, refl, ap, sym, _∙_}
-use mathlib.Core.Bool.{Bool, true, false, cond}
+use mathlib.Core.Bool.{Bool, true, false, _&&_, cond}
 use mathlib.Core.List.{List, [], _∷_, _++_}
 use native.Mathlib.Nat.{sub-zero}
 use native.Mathlib.Omega.{arith}
 use lib.Dec.{leb}
 use lib.ListN.{length}
 use borrow.Author.Needs.{needs}
-use borrow.Author.Tests.{leb-true}
+use borrow.Author.Tests.{leb-true, le-leb, lt-leb}
 use Rattle.model.specs.Format.{FaultClass, tooLong, cut, count, value, unused, field, disagreement, leftover, limits, Read, refused, got, Reader, Test, tested, andThen, done, times, each, readRecord}
 use Rattle.model.specs.Lists.{sumOf}
 use Rattle.model.specs.Raw.{rows}
+use Rattle.model.proofs.Booleans.{false-true}
 use Rattle.model.proofs.Lists.{none-left, one-left}
 use Rattle.words.specs.Sums.{sumFrom}
 use Rattle.words.specs.Verdicts.{verdict, codeOf, verdictOf, verdictIn, unlessOk}
@@ -33,6 +34,26 @@ verdict-in-append [] ys f = refl
 verdict-in-append ((true, class, at) ∷ xs) ys f = verdict-in-append xs ys f
 verdict-in-append ((false, class, at) ∷ xs) ys f = refl
 
+-- whether ok holds and all tests pass
+unfoldable pub passing : Bool → List Test → Bool
+passing ok [] = ok
+passing ok ((passes, class, at) ∷ tests) = passing (ok && passes) tests
+
+not-passing : (tests : List Test) → passing false tests ≡ true → ⊥
+unfolding passing
+not-passing [] e = false-true e
+not-passing ((passes, class, at) ∷ tests) e = not-passing tests e
+
+verdict-passing : (tests : List Test) (rest : Verdict) → passing true tests ≡ true → verdictIn tests rest ≡ rest
+unfolding passing verdictIn
+verdict-passing [] rest e = refl
+verdict-passing ((true, class, at) ∷ tests) rest e = verdict-passing tests rest e
+verdict-passing ((false, class, at) ∷ tests) rest e = absurd (not-passing tests e)
+
+-- where all tests pass, the verdict is what comes after them
+pub passed : (tests : List Test) (rest r : Verdict) (ok : Bool) → r ≡ rest → ok ≡ true → ok ≡ passing true tests → r ≡ verdictIn tests rest
+passed tests rest r ok e t h = e ∙ sym (verdict-passing tests rest (sym h ∙ t))
+
 -- one of two tests
 pub verdict-in-choice : (b : Bool) (x y : Test) (tests : List Test) (f : Verdict)
     → verdictIn (cond b x y ∷ tests) f ≡ cond b (verdictIn (x ∷ tests) f) (verdictIn (y ∷ tests) f)
@@ -48,6 +69,15 @@ pub verdict-record : {A : Type 0} (s : List ℕ) (size : ℕ) (tests : ℕ → L
     → verdictOf (readRecord s size tests says at) ≡ unlessOk (leb (at + size) (length s)) 2 at (verdictIn (tests at) (verdict 0 (at + size)))
 unfolding readRecord verdictOf verdictIn
 verdict-record s size tests says at = verdict-tested ((leb (at + size) (length s), cut, at) ∷ tests at) (got (says at) (at + size))
+
+module _ {A : Type 0} (s : List ℕ) (size : ℕ) (tests : ℕ → List Test) (says : ℕ → A) (at : ℕ) (r : Verdict) where
+  -- a record that is cut
+  pub record-cut : length s < at + size → r ≡ verdict 2 at → r ≡ verdictOf (readRecord s size tests says at)
+  record-cut h e = e ∙ sym (rw (lt-leb (at + size) (length s) h) at (verdict-record s size tests says at))
+
+  -- one that is whole: its tests
+  pub record-whole : at + size ≤ length s → r ≡ verdictIn (tests at) (verdict 0 (at + size)) → r ≡ verdictOf (readRecord s size tests says at)
+  record-whole h e = e ∙ sym (rw (le-leb (at + size) (length s) h) at (verdict-record s size tests says at))
 
 -- a record that is sound ends within the table
 sound-test : (b : Bool) (class at : ℕ) (rest r : Verdict) → r ≡ unlessOk b (suc class) at rest → r .class ≡ 0 → b ≡ true

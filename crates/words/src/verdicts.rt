@@ -4,7 +4,7 @@ ghost use mathlib.Core.Bool.{cond};
 ghost use Rattle.words.specs.Verdicts.{verdict, unlessOk};
 
 pub struct Verdict {
-    pub class: u8,
+    pub class: u32,
     pub at: usize,
 }
 
@@ -15,7 +15,7 @@ pub fn sound(at: usize) -> Verdict
     Verdict { class: 0, at: at }
 }
 
-pub fn fault(class: u8, at: usize) -> Verdict
+pub fn fault(class: u32, at: usize) -> Verdict
     ensures { λ r. ⌜ r ≡ verdict class at ⌝ }
 {
     Verdict {
@@ -25,7 +25,7 @@ pub fn fault(class: u8, at: usize) -> Verdict
 }
 
 // One test: where it passes, what the tests after it say.
-pub fn test(ok: bool, class: u8, at: usize, rest: Verdict) -> Verdict
+pub fn test(ok: bool, class: u32, at: usize, rest: Verdict) -> Verdict
     ensures { λ r. ⌜ r ≡ unlessOk ok class at rest ⌝ }
 {
     let f = fault(class, at);
@@ -34,6 +34,13 @@ pub fn test(ok: bool, class: u8, at: usize, rest: Verdict) -> Verdict
 
 // One of two verdicts.
 pub fn choose(c: bool, a: Verdict, b: Verdict) -> Verdict
+    ensures { λ r. ⌜ r ≡ cond c a b ⌝ }
+{
+    if c { a } else { b }
+}
+
+// One of two answers.
+pub fn pick(c: bool, a: bool, b: bool) -> bool
     ensures { λ r. ⌜ r ≡ cond c a b ⌝ }
 {
     if c { a } else { b }

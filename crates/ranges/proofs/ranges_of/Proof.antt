@@ -1,54 +1,23 @@
-use Prim.Native.Nat.{_≤_, _-_}
-use mathlib.Core.Path.{_≡_}
-use lib.ListN.{length}
-use Rattle.model.specs.Format.{readRange, pointRecord, times}
-use Rattle.words.specs.Verdicts.{verdictOf}
-use Rattle.words.proofs.Laws.{timess}
+use Rattle.ranges.proofs.RangeLaws.{range-typed}
+use borrow.Author.Needs.{needs}
 use Rattle.ranges.proofs.ranges_of.Statement.{statement}
 use Rattle.ranges.proofs.ranges_of.Tie as tie
 
-abbrev Inv-loop : tie.InvT-loop
-Inv-loop t point patterns n start at₀ i₀ at i = (i ≤ n) × (at ≤ length t) × (verdictOf (times n (readRange t (pointRecord t point) patterns) start) ≡ verdictOf (times (n - i) (readRange t (pointRecord t point) patterns) at))
+byte-requires : tie.Need-byte-requires
+byte-requires c κs = search needs
 
-abbrev μ-loop : tie.MeasureT-loop
-μ-loop t point patterns n start at₀ i₀ at i = n - i
+add-byte : tie.Need-add-byte
+add-byte c = search needs
 
-loop-holds : tie.Need-loop-holds Inv-loop μ-loop
-loop-holds c = search timess
+byte-requires-2 : tie.Need-byte-requires-2
+byte-requires-2 c κs = search needs
 
-range-fault-requires : tie.Need-range-fault-requires Inv-loop μ-loop
-range-fault-requires c κs = search timess
+typed-ranges-requires : tie.Need-typed-ranges-requires
+typed-ranges-requires c κs = search needs
 
-returns : tie.Need-returns Inv-loop μ-loop
-returns c = search timess
-
-add-i : tie.Need-add-i Inv-loop μ-loop
-add-i c = search timess
-
-loop-less : tie.Need-loop-less Inv-loop μ-loop
-loop-less c = search timess
-
-loop-again : tie.Need-loop-again Inv-loop μ-loop
-unfolding readRange
-loop-again c = search timess
-
-sound-requires : tie.Need-sound-requires Inv-loop μ-loop
-sound-requires c κs = search timess
-
-returns-2 : tie.Need-returns-2 Inv-loop μ-loop
-returns-2 c = search timess
+returns : tie.Need-returns
+returns c = rw (range-typed, c .typed-ranges .ensures, c .before .byte2 .ensures, c .before .before .byte .ensures)
 
 pub ranges-of-spec : {M : Type 1} → statement M
 ranges-of-spec =
-    tie.close
-    (tie.spec
-    Inv-loop
-    μ-loop
-    loop-holds
-    range-fault-requires
-    returns
-    add-i
-    loop-less
-    loop-again
-    sound-requires
-    returns-2)
+    tie.close (tie.spec byte-requires add-byte byte-requires-2 typed-ranges-requires returns)

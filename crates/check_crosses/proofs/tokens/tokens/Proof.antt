@@ -17,8 +17,8 @@ abbrev μ-loop : tie.MeasureT-loop
 loop-holds : tie.Need-loop-holds Inv-loop μ-loop
 loop-holds c = search timess
 
-token-requires : tie.Need-token-requires Inv-loop μ-loop
-token-requires c κs = search timess
+token-fault-requires : tie.Need-token-fault-requires Inv-loop μ-loop
+token-fault-requires c κs = search timess
 
 returns : tie.Need-returns Inv-loop μ-loop
 returns c = search timess
@@ -46,7 +46,7 @@ tokens-spec =
     Inv-loop
     μ-loop
     loop-holds
-    token-requires
+    token-fault-requires
     returns
     add-i
     loop-less

@@ -1,4 +1,5 @@
-use Rattle.check_values.proofs.BinLaws.{verdict-bin}
+use Rattle.words.proofs.Laws.{record-cut, record-whole}
+use Rattle.check_values.specs.Places.{readBin}
 use borrow.Author.Needs.{needs}
 use Rattle.check_values.proofs.bins.bin_fault.Statement.{statement}
 use Rattle.check_values.proofs.bins.bin_fault.Tie as tie
@@ -9,56 +10,28 @@ mul-at c = search needs
 add-at : tie.Need-add-at
 add-at c = search needs
 
-add-whole : tie.Need-add-whole
-add-whole c = search needs
+add-if1 : tie.Need-add-if1
+add-if1 c = search needs
 
-add-read2 : tie.Need-add-read2
-add-read2 c = search needs
+fault-requires : tie.Need-fault-requires
+fault-requires c κs = search needs
 
-read2-requires : tie.Need-read2-requires
-read2-requires c κs = search needs
+returns : tie.Need-returns
+unfolding readBin
+returns c = record-cut _ _ _ _ _ _ (c .before .if1 .taken) (c .fault .ensures)
 
-add-read2-2 : tie.Need-add-read2-2
-add-read2-2 c = search needs
-
-read2-requires-2 : tie.Need-read2-requires-2
-read2-requires-2 c κs = search needs
+bin-at-requires : tie.Need-bin-at-requires
+bin-at-requires c κs = search needs
 
 first-default-requires : tie.Need-first-default-requires
 first-default-requires c κs = search needs
 
-byte-requires : tie.Need-byte-requires
-byte-requires c κs = search needs
-
-cast-bin-rules : tie.Need-cast-bin-rules
-cast-bin-rules c = search needs
-
-add-byte : tie.Need-add-byte
-add-byte c = search needs
-
-byte-requires-2 : tie.Need-byte-requires-2
-byte-requires-2 c κs = search needs
-
-add-byte-2 : tie.Need-add-byte-2
-add-byte-2 c = search needs
-
-byte-requires-3 : tie.Need-byte-requires-3
-byte-requires-3 c κs = search needs
-
-add-byte-3 : tie.Need-add-byte-3
-add-byte-3 c = search needs
-
-byte-requires-4 : tie.Need-byte-requires-4
-byte-requires-4 c κs = search needs
-
 bin-rules-requires : tie.Need-bin-rules-requires
 bin-rules-requires c κs = search needs
 
-test-requires : tie.Need-test-requires
-test-requires c κs = search needs
-
-returns : tie.Need-returns
-returns c = rw (verdict-bin, c .test .ensures, c .before .bin-rules .ensures, c .before .before .byte4 .ensures, c .before .before .before .byte3 .ensures, c .before .before .before .before .byte2 .ensures, c .before .before .before .before .before .byte .ensures, c .before .before .before .before .before .before .first-default .ensures, c .before .before .before .before .before .before .before .read22 .ensures, c .before .before .before .before .before .before .before .before .read2 .ensures)
+returns-2 : tie.Need-returns-2
+unfolding readBin
+returns-2 c = record-whole _ _ _ _ _ _ (search needs) (rw (c .bin-rules .ensures, c .before .first-default .ensures, c .before .before .bin-at .ensures))
 
 pub bin-fault-spec : {M : Type 1} → statement M
 bin-fault-spec =
@@ -66,20 +39,10 @@ bin-fault-spec =
     (tie.spec
     mul-at
     add-at
-    add-whole
-    add-read2
-    read2-requires
-    add-read2-2
-    read2-requires-2
+    add-if1
+    fault-requires
+    returns
+    bin-at-requires
     first-default-requires
-    byte-requires
-    cast-bin-rules
-    add-byte
-    byte-requires-2
-    add-byte-2
-    byte-requires-3
-    add-byte-3
-    byte-requires-4
     bin-rules-requires
-    test-requires
-    returns)
+    returns-2)
