@@ -1,0 +1,10 @@
+pub mod Rising
+pub mod Rule
+pub mod FlagLaws
+pub mod Exact
+pub mod RaiseLaws
+pub mod Back
+pub mod BuildLaws
+pub mod OwnLaws
+pub mod Plans
+pub mod PointPlans

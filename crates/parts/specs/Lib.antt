@@ -1,0 +1,4 @@
+-- The definitions that the contracts cite.
+pub mod Rows
+pub mod Words
+pub mod Point

@@ -1,0 +1,58 @@
+-- What is left of the parts of a point, as pieces: spans and patterns of one part each. A span begins at its first value that is left.
+-- Values are the model's numbers, z + 2^31.
+-- Assumes nothing.
+use Prim.Native.Nat.{ℕ, _+_, _*_, _%_, _≤_, _<_}
+use mathlib.Core.Path.{_≡_}
+use mathlib.Core.Bool.{Bool, true, false, not, _&&_, cond}
+use mathlib.Core.List.{List, map}
+use lib.Dec.{eqb, ltb}
+use lib.ListN.{length, getD}
+use Rattle.model.specs.Lists.{any, asBit}
+use Rattle.model.specs.Table.{Range, span, pattern, Table}
+use Rattle.model.specs.Values.{highest, inType, inRange}
+use Rattle.model.specs.Counters.{CoverBin, noCoverBin, pointAt, excludedValue, holds, meets}
+use Rattle.model.specs.Raw.{rows}
+use Rattle.model.proofs.Readers.{All}
+use Rattle.arrays.specs.Flat.{covers}
+
+pub record Piece : Type 0 where
+  pub range : Range
+  pub part : ℕ
+
+abbrev pub piece : Range → ℕ → Piece
+piece r k = record { range = r; part = k }
+
+-- three words for each: low end or bits, high end or mask, and the part, 65,536 more for a pattern
+abbrev pub pieceAt : List ℕ → ℕ → Piece
+pieceAt w at = piece (cond (ltb (getD w (at + 2) 0) 65536) (span (getD w at 0) (getD w (at + 1) 0)) (pattern (getD w at 0) (getD w (at + 1) 0))) (getD w (at + 2) 0 % 65536)
+
+-- n pieces
+abbrev pub piecesAt : List ℕ → ℕ → ℕ → List Piece
+piecesAt w at n = rows (pieceAt w) 3 at n
+
+-- one of the pieces of part k holds the value
+abbrev pub pieceHolds : ℕ → ℕ → Piece → Bool
+pieceHolds k v q = eqb (q .part) k && inRange (q .range) v
+
+unfoldable pub partHolds : ℕ → ℕ → List Piece → Bool
+partHolds k v qs = any (pieceHolds k v) qs
+
+-- a span of the type that begins with a value that is left, or a pattern
+abbrev pub Begins : Table → ℕ → Range → Type 0
+Begins t p (span lo hi) = (inType (pointAt t p) lo ≡ true) × (excludedValue t p lo ≡ false) × (lo ≤ hi) × (hi ≤ highest (pointAt t p))
+Begins t p (pattern bits mask) = Unit {0}
+
+-- the pieces of point p hold of each part exactly the values that are left of it
+pub record PiecesOf (t : Table) (p : ℕ) (qs : List Piece) : Type 0 where
+  pub exact : (k v : ℕ) → k < length (covers t p) → inType (pointAt t p) v ≡ true
+      → (partHolds k v qs && not (excludedValue t p v)) ≡ holds t (getD (covers t p) k noCoverBin) v
+  pub begins : All (λ q. Begins t p (q .range)) qs
+  pub parts : All (λ q. q .part < length (covers t p)) qs
+
+-- 1 if the part still holds a value from lo to hi
+abbrev pub metBit : Table → ℕ → ℕ → CoverBin → ℕ
+metBit t lo hi c = asBit (meets t c lo hi)
+
+-- a byte for each part of the point
+unfoldable pub metBits : Table → ℕ → ℕ → ℕ → List ℕ
+metBits t p lo hi = map (metBit t lo hi) (covers t p)

@@ -1,0 +1,4 @@
+// A number.
+pub fn one() -> u64 {
+    1
+}

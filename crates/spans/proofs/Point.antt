@@ -1,0 +1,114 @@
+-- The spans of a point in the model's words: what they hold, the least value that is left, and how many there are.
+-- Assumes nothing.
+use mathlib.Core.Path.{_≡_, refl, sym, ap, _∙_}
+use mathlib.Core.Bool.{Bool, true, false, _&&_, cond}
+use mathlib.Core.List.{List, [], _∷_}
+use Prim.Native.Nat.{ℕ, zero, suc, _+_, _-_, _≤_, _<_}
+use native.Mathlib.Omega.{arith}
+use lib.Dec.{leb, ltb, eqb}
+use lib.ListN.{length, length-append}
+use borrow.Author.Tests.{leb-true, ltb-true, ltb-false, eqb-true}
+use Rattle.model.specs.Lists.{sumOf, upFrom}
+use Rattle.model.specs.Table.{Range, ValueBin, Table, excludes}
+use Rattle.model.specs.Values.{lowest, highest, inType}
+use Rattle.model.specs.Counters.{pointAt, excludedValue}
+use Rattle.model.specs.Format.{accepted, tableOf}
+use Rattle.model.specs.Ranges.{rangesOf}
+use Rattle.model.specs.Raw.{recordsPlace, recordCount}
+use Rattle.model.specs.Register.{pointTotal}
+use Rattle.model.proofs.Booleans.{false-true}
+use Rattle.model.proofs.Sections.{acceptance, accepted-decodes}
+use Rattle.model.proofs.Access.{ranges-access}
+use Rattle.ranges.specs.Taken.{excludedAt}
+use Rattle.spans.specs.Spans.{heldBy, apart, free, Settled, Least}
+use Rattle.spans.specs.Collected.{wordsFrom}
+use Rattle.spans.specs.Point.{SpansOf, freeValue, rangesListed}
+use Rattle.spans.proofs.LookLaws.{free-least}
+use Rattle.spans.proofs.Exact.{spans-exact, bins-are}
+
+-- ---- of an accepted table
+
+pub spans-of : (s : List ℕ) → accepted s ≡ true → (p : ℕ) (ws : List ℕ)
+    → Settled (wordsFrom (lowest (pointAt (tableOf s) p)) (excludedAt s (recordsPlace s 1) (recordsPlace s 2) (recordCount s 1) p)) ws → SpansOf (tableOf s) p ws
+spans-of s ok p ws o = record { gaps = o .gaps; exact = spans-exact s ok p ws o }
+
+-- ---- the least value that is left
+
+module _ (t : Table) (p : ℕ) (ws : List ℕ) (o : SpansOf t p ws) (v : ℕ) (h : lowest (pointAt t p) ≤ v) where
+  abbrev low : ℕ
+  low = lowest (pointAt t p)
+
+  least : Least ws (v - low) (free ws (v - low))
+  least = free-least ws (o .gaps) (v - low)
+
+  pub free-from : v ≤ freeValue ws low v
+  free-from = omega (arith, least .from)
+
+  pub free-left : inType (pointAt t p) (freeValue ws low v) ≡ true → excludedValue t p (freeValue ws low v) ≡ false
+  free-left e =
+      let z : low + free ws (v - low) - low ≡ free ws (v - low) = omega arith in
+      sym (o .exact (low + free ws (v - low)) e) ∙ ap (heldBy ws) z ∙ least .out
+
+  pub free-below : (u : ℕ) → v ≤ u → inType (pointAt t p) u ≡ true → excludedValue t p u ≡ false → freeValue ws low v ≤ u
+  free-below u k e f = go (ltb u (freeValue ws low v)) refl
+    where
+      go : (b : Bool) → ltb u (freeValue ws low v) ≡ b → freeValue ws low v ≤ u
+      go false q = ltb-false u (freeValue ws low v) q
+      go true q = absurd (false-true (sym f ∙ sym (o .exact u e) ∙ least .passed (u - low) (omega arith) (omega (arith, ltb-true u (freeValue ws low v) q))))
+
+-- ---- how many
+
+excluded-few : (p : ℕ) (bs : List ValueBin) → length (rangesOf excludes p bs) ≤ sumOf (λ b. cond (eqb (b .point) p) (length (b .ranges)) 0) bs
+unfolding rangesOf sumOf
+excluded-few p [] = omega arith
+excluded-few p (b ∷ bs) = omega (arith, length-append (cond (eqb (b .point) p && excludes (b .kind)) (b .ranges) []) (rangesOf excludes p bs), go (eqb (b .point) p) (excludes (b .kind)), excluded-few p bs)
+  where
+    go : (c d : Bool) → length (cond (c && d) (b .ranges) []) ≤ cond c (length (b .ranges)) 0
+    go true true = omega arith
+    go true false = omega arith
+    go false d = omega arith
+
+pub excluded-listed : (s : List ℕ) → accepted s ≡ true → (p : ℕ) → length (excludedAt s (recordsPlace s 1) (recordsPlace s 2) (recordCount s 1) p) ≤ rangesListed (tableOf s) p
+unfolding rangesListed
+excluded-listed s ok p = omega (arith, ap (λ (bs : List ValueBin). length (rangesOf excludes p bs)) (bins-are s ok p), excluded-few p (tableOf s .valueBins))
+
+-- each bin has one point, so that over all points its ranges are counted once at most
+none-after : (n k i m : ℕ) → n < i → sumOf (λ q. cond (eqb n q) k 0) (upFrom i m) ≡ 0
+unfolding sumOf upFrom
+none-after n k i zero h = refl
+none-after n k i (suc m) h = go (eqb n i) refl (none-after n k (suc i) m (omega (arith, h)))
+  where
+    go : (b : Bool) → eqb n i ≡ b → sumOf (λ q. cond (eqb n q) k 0) (upFrom (suc i) m) ≡ 0 → cond b k 0 + sumOf (λ q. cond (eqb n q) k 0) (upFrom (suc i) m) ≡ 0
+    go true e z = absurd (omega (arith, eqb-true n i e, h))
+    go false e z = omega (arith, z)
+
+once : (n k i m : ℕ) → sumOf (λ q. cond (eqb n q) k 0) (upFrom i m) ≤ k
+unfolding sumOf upFrom
+once n k i zero = omega arith
+once n k i (suc m) = go (eqb n i) refl (once n k (suc i) m)
+  where
+    go : (b : Bool) → eqb n i ≡ b → sumOf (λ q. cond (eqb n q) k 0) (upFrom (suc i) m) ≤ k → cond b k 0 + sumOf (λ q. cond (eqb n q) k 0) (upFrom (suc i) m) ≤ k
+    go true e z = omega (arith, none-after n k (suc i) m (omega (arith, eqb-true n i e)))
+    go false e z = omega (arith, z)
+
+sum-none : (ps : List ℕ) → sumOf (λ (q : ℕ). 0) ps ≡ 0
+unfolding sumOf
+sum-none [] = refl
+sum-none (p ∷ ps) = omega (arith, sum-none ps)
+
+sum-add : (f g : ℕ → ℕ) (ps : List ℕ) → sumOf (λ q. f q + g q) ps ≡ sumOf f ps + sumOf g ps
+unfolding sumOf
+sum-add f g [] = refl
+sum-add f g (p ∷ ps) = omega (arith, sum-add f g ps)
+
+all-listed : (m : ℕ) (bs : List ValueBin) → sumOf (λ p. sumOf (λ b. cond (eqb (b .point) p) (length (b .ranges)) 0) bs) (upFrom 0 m) ≤ sumOf (λ b. length (b .ranges)) bs
+unfolding sumOf
+all-listed m [] = omega (arith, sum-none (upFrom 0 m))
+all-listed m (b ∷ bs) =
+    omega (arith, sum-add (λ p. cond (eqb (b .point) p) (length (b .ranges)) 0) (λ p. sumOf (λ b. cond (eqb (b .point) p) (length (b .ranges)) 0) bs) (upFrom 0 m), once (b .point) (length (b .ranges)) 0 m, all-listed m bs)
+
+pub ranges-few : (s : List ℕ) → accepted s ≡ true → (m : ℕ) → sumOf (rangesListed (tableOf s)) (upFrom 0 m) ≤ 1024
+unfolding rangesListed
+ranges-few s ok m =
+    let a = acceptance s (tableOf s) (accepted-decodes s ok) in
+    omega (arith, all-listed m (tableOf s .valueBins), ranges-access s (tableOf s) (length s) (a .layout) .0 .high)
