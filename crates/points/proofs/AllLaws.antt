@@ -121,7 +121,7 @@ module _ (s : List ℕ) (ok : accepted s ≡ true) where
   counters-room (suc n) i h =
       omega (arith, length-append (pointCounters (tableOf s) i) (concatOf (pointCounters (tableOf s)) (upFrom (suc i) n)), few-here i (omega arith), counters-room n (suc i) (omega arith))
 
-  pub rest-room : (w lens : List ℕ) (n i c size : ℕ) → n ≡ pointTotal (tableOf s) → i ≤ n → c ≤ 256 * i → 4096 ≤ size → c + length (hitsFrom (tableOf s) w lens i (n - i)) ≤ size
+  pub rest-room : (w lens : List ℕ) (n i c size : ℕ) → n ≡ pointTotal (tableOf s) → i ≤ n → c ≤ 256 * i → 256 * pointTotal (tableOf s) ≤ size → c + length (hitsFrom (tableOf s) w lens i (n - i)) ≤ size
   unfolding hitsFrom hitFlags
   rest-room w lens n i c size e k h big =
       let cs = concatOf (pointCounters (tableOf s)) (upFrom i (n - i)) in

@@ -88,7 +88,7 @@ module _ (t : Table) (n : ℕ) where
   items-none i c l h = ap (λ (z : List ℕ). put c z l) (points-end (itemOf t) t n i h) ∙ put-nil c l
 
 module _ (s : List ℕ) (ok : accepted s ≡ true) where
-  pub items-room : (n i c size : ℕ) → n ≡ pointTotal (tableOf s) → i ≤ n → c ≤ 256 * i → 4096 ≤ size → c + length (itemsFrom (tableOf s) i (n - i)) ≤ size
+  pub items-room : (n i c size : ℕ) → n ≡ pointTotal (tableOf s) → i ≤ n → c ≤ 256 * i → 256 * pointTotal (tableOf s) ≤ size → c + length (itemsFrom (tableOf s) i (n - i)) ≤ size
   unfolding itemsFrom itemsOf
   items-room n i c size e k h big =
       let cs = concatOf (pointCounters (tableOf s)) (upFrom i (n - i)) in

@@ -223,7 +223,7 @@ module _ (s : List ℕ) (ok : accepted s ≡ true) where
   unfolding pointStart
   start-low p h = counters-room s ok p 0 (omega arith)
 
-  pub kinds-room : (n i c size : ℕ) → n ≡ pointTotal (tableOf s) → i ≤ n → c ≤ 256 * i → 4096 ≤ size → c + length (kindsFrom (tableOf s) i (n - i)) ≤ size
+  pub kinds-room : (n i c size : ℕ) → n ≡ pointTotal (tableOf s) → i ≤ n → c ≤ 256 * i → 256 * pointTotal (tableOf s) ≤ size → c + length (kindsFrom (tableOf s) i (n - i)) ≤ size
   unfolding kindsFrom
   kinds-room n i c size e k h big =
       let cs = concatOf (pointCounters (tableOf s)) (upFrom i (n - i)) in

@@ -147,7 +147,7 @@ unfolding totalFlags
 totals-length t cs = length-map cs (λ c. asBit (inTotal t c))
 
 module _ (s : List ℕ) (ok : accepted s ≡ true) where
-  pub totals-room : (n i c size : ℕ) → n ≡ pointTotal (tableOf s) → i ≤ n → c ≤ 256 * i → 4096 ≤ size → c + length (totalsFrom (tableOf s) i (n - i)) ≤ size
+  pub totals-room : (n i c size : ℕ) → n ≡ pointTotal (tableOf s) → i ≤ n → c ≤ 256 * i → 256 * pointTotal (tableOf s) ≤ size → c + length (totalsFrom (tableOf s) i (n - i)) ≤ size
   unfolding totalsFrom
   totals-room n i c size e k h big =
       let cs = concatOf (pointCounters (tableOf s)) (upFrom i (n - i)) in

@@ -2,7 +2,7 @@
 use layout::layout_of;
 ghost use mathlib.Core.Path.{_≡_};
 ghost use mathlib.Core.Bool.{true};
-ghost use Prim.Native.Nat.{_<_, _≤_, _+_};
+ghost use Prim.Native.Nat.{_<_, _≤_, _+_, _*_};
 ghost use lib.ListN.{length, take};
 ghost use Rattle.model.specs.Format.{accepted, tableOf};
 ghost use Rattle.model.specs.Register.{pointTotal};
@@ -39,7 +39,7 @@ fn gather_some(gate: &mut [u8], cur: usize, kinds: &[u8], flags: &[u8], from: us
 
 // Those of each of n points.
 fn gather_each(gate: &mut [u8], t: &[u8], kinds: &[u8], flags: &[u8], starts: &[u16], n: usize)
-    requires { ⌜ (accepted (now t) ≡ true) × (4096 ≤ length (now gate)) × (length (allPointCounters (tableOf (now t))) ≤ length (now flags)) × (17 ≤ length (now starts)) ⌝ }
+    requires { ⌜ (accepted (now t) ≡ true) × (256 * pointTotal (tableOf (now t)) ≤ length (now gate)) × (length (allPointCounters (tableOf (now t))) ≤ length (now flags)) × (17 ≤ length (now starts)) ⌝ }
     requires { ⌜ (Kinded (tableOf (now t)) (now kinds)) × (take (pointTotal (tableOf (now t)) + 1) (now starts) ≡ pointStarts (tableOf (now t))) × (n ≡ pointTotal (tableOf (now t))) ⌝ }
     ensures { λ _. ⌜ Gathered (tableOf (now (t .entry))) (now (flags .entry)) (now (gate .exit)) ⌝ }
 {
@@ -54,7 +54,7 @@ fn gather_each(gate: &mut [u8], t: &[u8], kinds: &[u8], flags: &[u8], starts: &[
 
 // The flags of the points' counters, as a gate of their cover bins.
 pub fn gather(gate: &mut [u8], t: &[u8], kinds: &[u8], flags: &[u8], starts: &[u16])
-    requires { ⌜ (accepted (now t) ≡ true) × (4096 ≤ length (now gate)) × (length (allPointCounters (tableOf (now t))) ≤ length (now flags)) × (17 ≤ length (now starts)) ⌝ }
+    requires { ⌜ (accepted (now t) ≡ true) × (256 * pointTotal (tableOf (now t)) ≤ length (now gate)) × (length (allPointCounters (tableOf (now t))) ≤ length (now flags)) × (17 ≤ length (now starts)) ⌝ }
     requires { ⌜ (Kinded (tableOf (now t)) (now kinds)) × (take (pointTotal (tableOf (now t)) + 1) (now starts) ≡ pointStarts (tableOf (now t))) ⌝ }
     ensures { λ _. ⌜ Gathered (tableOf (now (t .entry))) (now (flags .entry)) (now (gate .exit)) ⌝ }
 {

@@ -10,7 +10,7 @@ use words::bytes::byte;
 use words::bytes::read2;
 ghost use mathlib.Core.Path.{_≡_};
 ghost use mathlib.Core.Bool.{true};
-ghost use Prim.Native.Nat.{_<_, _≤_, _+_, _^_};
+ghost use Prim.Native.Nat.{_<_, _≤_, _+_, _^_, _*_};
 ghost use lib.ListN.{length};
 ghost use Rattle.model.specs.Counters.{pointCounters};
 ghost use Rattle.model.specs.Format.{accepted, tableOf};
@@ -134,7 +134,7 @@ fn put_kinds(kinds: &mut [u8], cur: usize, t: &[u8], l: Layout, p: u8) -> usize
 
 // The counters of each point, and where they begin, by the places of the layout.
 fn put_each(kinds: &mut [u8], starts: &mut [u16], t: &[u8], l: Layout) -> usize
-    requires { ⌜ (Placed (now t) l) × (4096 ≤ length (now kinds)) × (17 ≤ length (now starts)) ⌝ }
+    requires { ⌜ (Placed (now t) l) × (256 * pointTotal (tableOf (now t)) ≤ length (now kinds)) × (17 ≤ length (now starts)) ⌝ }
     ensures { λ r. ⌜ r ≡ length (allPointCounters (tableOf (now (t .entry)))) ⌝ }
     ensures { λ _. ⌜ (now (kinds .exit) ≡ put 0 (kindsOf (allPointCounters (tableOf (now (t .entry))))) (now (kinds .entry))) × (now (starts .exit) ≡ put 0 (pointStarts (tableOf (now (t .entry)))) (now (starts .entry))) ⌝ }
 {
@@ -152,7 +152,7 @@ fn put_each(kinds: &mut [u8], starts: &mut [u16], t: &[u8], l: Layout) -> usize
 
 // What each counter of the points is, and where each point's begin: how many there are.
 pub fn put_point_kinds(kinds: &mut [u8], starts: &mut [u16], t: &[u8]) -> usize
-    requires { ⌜ (accepted (now t) ≡ true) × (4096 ≤ length (now kinds)) × (17 ≤ length (now starts)) ⌝ }
+    requires { ⌜ (accepted (now t) ≡ true) × (256 * pointTotal (tableOf (now t)) ≤ length (now kinds)) × (17 ≤ length (now starts)) ⌝ }
     ensures { λ r. ⌜ r ≡ length (allPointCounters (tableOf (now (t .entry)))) ⌝ }
     ensures { λ _. ⌜ (now (kinds .exit) ≡ put 0 (kindsOf (allPointCounters (tableOf (now (t .entry))))) (now (kinds .entry))) × (now (starts .exit) ≡ put 0 (pointStarts (tableOf (now (t .entry)))) (now (starts .entry))) ⌝ }
 {

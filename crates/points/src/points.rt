@@ -7,7 +7,7 @@ use values::points::lowest_at;
 use values::points::put_point;
 ghost use mathlib.Core.Path.{_≡_};
 ghost use mathlib.Core.Bool.{true};
-ghost use Prim.Native.Nat.{_<_, _≤_, _+_};
+ghost use Prim.Native.Nat.{_<_, _≤_, _+_, _*_};
 ghost use lib.ListN.{length, take};
 ghost use Rattle.model.specs.Counters.{pointCounters};
 ghost use Rattle.model.specs.Sampling.{reading};
@@ -73,7 +73,7 @@ fn put_each(
     readings: &[u64],
     lens: &[u32],
 ) -> usize
-    requires { ⌜ (Sampled (now t) l (now sample)) × (4096 ≤ length (now flags)) × (64 ≤ length (now lens)) × (16 ≤ length (now readings)) × Readings (tableOf (now t)) (now sample) (now readings) ⌝ }
+    requires { ⌜ (Sampled (now t) l (now sample)) × (256 * pointTotal (tableOf (now t)) ≤ length (now flags)) × (64 ≤ length (now lens)) × (16 ≤ length (now readings)) × Readings (tableOf (now t)) (now sample) (now readings) ⌝ }
     ensures { λ r. ⌜ (r ≡ length (allPointCounters (tableOf (now (t .entry))))) × (now (flags .exit) ≡ put 0 (hitFlags (tableOf (now (t .entry))) (now (sample .entry)) (runStretches (take (length (tableOf (now (t .entry)) .transitionBins)) (now (lens .entry)))) (allPointCounters (tableOf (now (t .entry))))) (now (flags .entry))) ⌝ }
 {
     let n = l.point_count;
@@ -95,7 +95,7 @@ pub fn put_points(
     readings: &[u64],
     lens: &[u32],
 ) -> usize
-    requires { ⌜ (accepted (now t) ≡ true) × (4096 ≤ length (now flags)) × (64 ≤ length (now lens)) × (16 ≤ length (now readings)) × Readings (tableOf (now t)) (now sample) (now readings) ⌝ }
+    requires { ⌜ (accepted (now t) ≡ true) × (256 * pointTotal (tableOf (now t)) ≤ length (now flags)) × (64 ≤ length (now lens)) × (16 ≤ length (now readings)) × Readings (tableOf (now t)) (now sample) (now readings) ⌝ }
     ensures { λ r. ⌜ r ≡ length (allPointCounters (tableOf (now (t .entry)))) ⌝ }
     ensures { λ _. ⌜ now (flags .exit) ≡ put 0 (hitFlags (tableOf (now (t .entry))) (now (sample .entry)) (runStretches (take (length (tableOf (now (t .entry)) .transitionBins)) (now (lens .entry)))) (allPointCounters (tableOf (now (t .entry))))) (now (flags .entry)) ⌝ }
 {

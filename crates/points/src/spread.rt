@@ -3,7 +3,7 @@ use arrays::as_bit;
 use layout::layout_of;
 ghost use mathlib.Core.Path.{_≡_};
 ghost use mathlib.Core.Bool.{true};
-ghost use Prim.Native.Nat.{_<_, _≤_, _+_};
+ghost use Prim.Native.Nat.{_<_, _≤_, _+_, _*_};
 ghost use lib.ListN.{length, take};
 ghost use Rattle.model.specs.Counters.{hasValue};
 ghost use Rattle.model.specs.Format.{accepted, tableOf};
@@ -52,7 +52,7 @@ fn scatter_each(
     starts: &[u16],
     n: usize,
 ) -> usize
-    requires { ⌜ (accepted (now t) ≡ true) × (4096 ≤ length (now flags)) × (4096 ≤ length (now has)) × (17 ≤ length (now starts)) × (n ≡ pointTotal (tableOf (now t))) ⌝ }
+    requires { ⌜ (accepted (now t) ≡ true) × (256 * pointTotal (tableOf (now t)) ≤ length (now flags)) × (256 * pointTotal (tableOf (now t)) ≤ length (now has)) × (17 ≤ length (now starts)) × (n ≡ pointTotal (tableOf (now t))) ⌝ }
     requires { ⌜ (Kinded (tableOf (now t)) (now kinds)) × (take (pointTotal (tableOf (now t)) + 1) (now starts) ≡ pointStarts (tableOf (now t))) × (Tells (hasValue (tableOf (now t))) (tableOf (now t)) (now has)) ⌝ }
     ensures { λ r. ⌜ r ≡ length (allPointCounters (tableOf (now (t .entry)))) ⌝ }
     ensures { λ _. ⌜ now (flags .exit) ≡ put 0 (totalFlags (tableOf (now (t .entry))) (allPointCounters (tableOf (now (t .entry))))) (now (flags .entry)) ⌝ }
@@ -70,7 +70,7 @@ fn scatter_each(
 
 // Which counters of the points count in their items' totals, given which cover bins hold a value: how many counters there are.
 pub fn scatter(flags: &mut [u8], t: &[u8], kinds: &[u8], has: &[u8], starts: &[u16]) -> usize
-    requires { ⌜ (accepted (now t) ≡ true) × (4096 ≤ length (now flags)) × (4096 ≤ length (now has)) × (17 ≤ length (now starts)) ⌝ }
+    requires { ⌜ (accepted (now t) ≡ true) × (256 * pointTotal (tableOf (now t)) ≤ length (now flags)) × (256 * pointTotal (tableOf (now t)) ≤ length (now has)) × (17 ≤ length (now starts)) ⌝ }
     requires { ⌜ (Kinded (tableOf (now t)) (now kinds)) × (take (pointTotal (tableOf (now t)) + 1) (now starts) ≡ pointStarts (tableOf (now t))) × (Tells (hasValue (tableOf (now t))) (tableOf (now t)) (now has)) ⌝ }
     ensures { λ r. ⌜ r ≡ length (allPointCounters (tableOf (now (t .entry)))) ⌝ }
     ensures { λ _. ⌜ now (flags .exit) ≡ put 0 (totalFlags (tableOf (now (t .entry))) (allPointCounters (tableOf (now (t .entry))))) (now (flags .entry)) ⌝ }
