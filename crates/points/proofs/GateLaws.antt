@@ -122,7 +122,7 @@ module _ (t : Table) (p : ℕ) (inside : p < pointTotal t) where
       sym (getD-take (length (allPointCounters t)) l (pointStart t p + j) 0 (omega (arith, start-within)))
       ∙ ap (λ (x : List ℕ). getD x (pointStart t p + j) 0) e ∙ at-point f j h
 
-  picked-covers : (g : Counter → Bool) (kinds flags : List ℕ) → Kinded t kinds → Flagged g t flags → picked kinds flags (pointStart t p) (length (pointCounters t p)) ≡ map (λ b. asBit (g (valueBin b))) (covers t p)
+  pub picked-covers : (g : Counter → Bool) (kinds flags : List ℕ) → Kinded t kinds → Flagged g t flags → picked kinds flags (pointStart t p) (length (pointCounters t p)) ≡ map (λ b. asBit (g (valueBin b))) (covers t p)
   unfolding Kinded Flagged kindsOf covers
   picked-covers g kinds flags k f =
       picked-exact g kinds flags (pointCounters t p) (pointStart t p) (λ j h. list-point kinds kindOf k j h) (λ j h. list-point flags (λ c. asBit (g c)) f j h)

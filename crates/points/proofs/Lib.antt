@@ -10,3 +10,4 @@ pub mod KindExact
 pub mod ItemLaws
 pub mod GateLaws
 pub mod SpreadLaws
+pub mod CountLaws
