@@ -3,26 +3,26 @@
 use mathlib.Core.Path.{_≡_, refl, sym, ap, _∙_}
 use mathlib.Core.Bool.{true}
 use mathlib.Core.List.{List, _++_, map, map-append}
-use Prim.Native.Nat.{ℕ, suc, _+_, _≤_}
+use Prim.Native.Nat.{ℕ, suc, _+_, _*_, _≤_}
 use native.Mathlib.Nat.{zero-add}
 use native.Mathlib.Numerals.{add-one}
 use native.Mathlib.Omega.{arith}
 use lib.ListN.{length, take, length-append, length-map}
+use lib.Seq.{take-take, take-at}
 use Rattle.model.specs.Lists.{upFrom, asBit}
 use Rattle.model.specs.Table.{Table}
 use Rattle.model.specs.Counters.{Counter, pointCounters, counters}
 use Rattle.model.specs.Sampling.{Stretches, coverHit, hits}
 use Rattle.model.specs.Figures.{inTotal, itemOf}
 use Rattle.model.specs.Format.{accepted, tableOf}
-use Rattle.model.specs.Register.{pointTotal}
+use Rattle.model.specs.Register.{pointTotal, counterTotal}
 use Rattle.model.proofs.Sections.{acceptance, accepted-decodes}
 use Rattle.model.proofs.Access.{points-access}
-use Rattle.model.proofs.Measure.{size-concat}
-use Rattle.model.proofs.MeasureBounds.{point-counters, counters-few}
 use Rattle.model.proofs.Lists.{length-upFrom}
 use Rattle.arrays.specs.Put.{put}
 use Rattle.arrays.specs.Flat.{hitFlags, totalFlags, kindsOf, kindOf, itemsOf, allPointCounters, allCrossCounters, pointStart, pointStarts, Tells, coverCounts}
 use Rattle.points.specs.Gates.{Kinded, Flagged, Gathered}
+use Rattle.sampling.specs.Index.{Labelled}
 use Rattle.arrays.proofs.PutLaws.{put-next, front-put}
 use Rattle.arrays.proofs.FlatLaws.{counts-length, kinds-length}
 
@@ -39,27 +39,18 @@ joined f xs ys n l m r e h a b =
 abbrev pub pointCount : Table → ℕ
 pointCount t = length (allPointCounters t)
 
-module _ (s : List ℕ) (e : accepted s ≡ true) where
-  pub points-few : pointCount (tableOf s) ≤ 4096
-  unfolding allPointCounters
-  points-few =
-      let t = tableOf s in
-      let a = acceptance s t (accepted-decodes s e) in
-      let b = size-concat length refl length-append (pointCounters t) (upFrom 0 (length (t .points))) in
-      omega (arith, point-counters s t (length s) (a .layout) (a .limited))
+pub all-count : (t : Table) → pointCount t + length (allCrossCounters t) ≡ counterTotal t
+unfolding counters allPointCounters allCrossCounters
+all-count t = sym (length-append (allPointCounters t) (allCrossCounters t))
 
-  pub sixteen : pointTotal (tableOf s) ≤ 16
-  sixteen =
-      let t = tableOf s in
-      points-access s t (length s) (acceptance s t (accepted-decodes s e) .layout) .0 .high
+sixteen : (s : List ℕ) → accepted s ≡ true → pointTotal (tableOf s) ≤ 16
+sixteen s e =
+    let t = tableOf s in
+    points-access s t (length s) (acceptance s t (accepted-decodes s e) .layout) .0 .high
 
-  pub all-few : pointCount (tableOf s) + length (allCrossCounters (tableOf s)) ≤ 12416
-  unfolding counters allPointCounters allCrossCounters
-  all-few =
-      let t = tableOf s in
-      let a = acceptance s t (accepted-decodes s e) in
-      let b = length-append (allPointCounters t) (allCrossCounters t) in
-      omega (arith, counters-few s t (length s) (a .layout) (a .limited))
+-- 256 elements for each point are in an array of 4,096
+pub gate-room : (s : List ℕ) → accepted s ≡ true → 256 * pointTotal (tableOf s) ≤ 4096
+gate-room s e = omega (arith, sixteen s e)
 
 -- ---- the whole of each array
 
@@ -102,14 +93,23 @@ pub counts-stand : (s : List ℕ) (l r : List ℕ) → accepted s ≡ true → r
     → take (pointTotal (tableOf s)) r ≡ coverCounts (tableOf s)
 counts-stand s l r a e h = let t = tableOf s in let k : pointTotal t ≤ length l = omega (arith, sixteen s a) in ap (take (pointTotal t)) e ∙ front-put (pointTotal t) (coverCounts t) l (counts-length t) k
 
-pub kinds-stand : (s : List ℕ) (l r : List ℕ) → accepted s ≡ true → r ≡ put 0 (kindsOf (allPointCounters (tableOf s))) l → 4096 ≤ length l
+pub kinds-stand : (s : List ℕ) (l r : List ℕ) → accepted s ≡ true → r ≡ put 0 (kindsOf (allPointCounters (tableOf s))) l → pointCount (tableOf s) ≤ length l
     → Kinded (tableOf s) r
 unfolding Kinded
-kinds-stand s l r a e h = let t = tableOf s in let k : pointCount t ≤ length l = omega (arith, points-few s a) in ap (take (pointCount t)) e ∙ front-put (pointCount t) (kindsOf (allPointCounters t)) l (kinds-length (allPointCounters t)) k
+kinds-stand s l r a e h = let t = tableOf s in ap (take (pointCount t)) e ∙ front-put (pointCount t) (kindsOf (allPointCounters t)) l (kinds-length (allPointCounters t)) h
 
 -- from the flags that a sample raises at the points, the gates are the cover bins that it hits
-pub gates-stand : (s w : List ℕ) (m : Stretches) (l r gate : List ℕ) → accepted s ≡ true → r ≡ put 0 (hitFlags (tableOf s) w m (allPointCounters (tableOf s))) l → 4096 ≤ length l
+pub gates-stand : (s w : List ℕ) (m : Stretches) (l r gate : List ℕ) → accepted s ≡ true → r ≡ put 0 (hitFlags (tableOf s) w m (allPointCounters (tableOf s))) l → pointCount (tableOf s) ≤ length l
     → Gathered (tableOf s) r gate
     → Tells (coverHit (tableOf s) w) (tableOf s) gate
 unfolding hitFlags hits Gathered Flagged
-gates-stand s w m l r gate a e h f = let t = tableOf s in let k : pointCount t ≤ length l = omega (arith, points-few s a) in f (hits t w m) (ap (take (pointCount t)) e ∙ front-put (pointCount t) (hitFlags t w m (allPointCounters t)) l (length-hits t w m (allPointCounters t)) k)
+gates-stand s w m l r gate a e h f = let t = tableOf s in f (hits t w m) (ap (take (pointCount t)) e ∙ front-put (pointCount t) (hitFlags t w m (allPointCounters t)) l (length-hits t w m (allPointCounters t)) h)
+
+-- the kinds of all counters begin with those of the points'
+pub labelled-points : (t : Table) (kinds : List ℕ) → Labelled t kinds → Kinded t kinds
+unfolding Labelled Kinded kindsOf counters allPointCounters allCrossCounters
+labelled-points t kinds e =
+    let xs = allPointCounters t in
+    let ys = allCrossCounters t in
+    sym (take-take (pointCount t) (counterTotal t) kinds (omega (arith, all-count t))) ∙ ap (take (pointCount t)) (e ∙ map-append kindOf xs ys)
+    ∙ take-at (map kindOf xs) (map kindOf ys) (pointCount t) (length-map xs kindOf)
