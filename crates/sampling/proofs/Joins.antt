@@ -18,11 +18,12 @@ use Rattle.model.specs.Format.{accepted, tableOf}
 use Rattle.model.specs.Register.{pointTotal, counterTotal}
 use Rattle.model.proofs.Sections.{acceptance, accepted-decodes}
 use Rattle.model.proofs.Access.{points-access}
+use Rattle.model.proofs.MeasureBounds.{counters-few}
 use Rattle.model.proofs.Lists.{length-upFrom}
 use Rattle.arrays.specs.Put.{put}
 use Rattle.arrays.specs.Flat.{hitFlags, totalFlags, kindsOf, kindOf, itemsOf, allPointCounters, allCrossCounters, pointStart, pointStarts, Tells, coverCounts}
 use Rattle.points.specs.Gates.{Kinded, Flagged, Gathered}
-use Rattle.sampling.specs.Index.{Labelled}
+use Rattle.sampling.specs.Index.{Roomy, Labelled}
 use Rattle.arrays.proofs.PutLaws.{put-next, front-put}
 use Rattle.arrays.proofs.FlatLaws.{counts-length, kinds-length}
 
@@ -51,6 +52,13 @@ sixteen s e =
 -- 256 elements for each point are in an array of 4,096
 pub gate-room : (s : List ℕ) → accepted s ≡ true → 256 * pointTotal (tableOf s) ≤ 4096
 gate-room s e = omega (arith, sixteen s e)
+
+-- no table has more counters than this
+pub largest-room : (s : List ℕ) → accepted s ≡ true → Roomy (tableOf s) 12416
+largest-room s e =
+    let t = tableOf s in
+    let a = acceptance s t (accepted-decodes s e) in
+    (omega (arith, sixteen s e), omega (arith, counters-few s t (length s) (a .layout) (a .limited)))
 
 -- ---- the whole of each array
 
