@@ -3,7 +3,7 @@
 use mathlib.Core.Path.{_≡_, refl, ap, ap₂, sym, _∙_}
 use mathlib.Core.Bool.{true}
 use mathlib.Core.List.{List, _∷_, map}
-use Prim.Native.Nat.{ℕ, zero, suc, _+_, _≤_}
+use Prim.Native.Nat.{ℕ, zero, suc, _+_, _≤_, _<_}
 use native.Mathlib.Omega.{arith}
 use lib.ListN.{length, take, drop, getD, length-map}
 use borrow.Author.Tests.{leb-true}
@@ -22,11 +22,10 @@ use Rattle.arrays.specs.Flat.{totalFlags, itemsOf}
 use Rattle.figures.specs.Figures.{item, itemsFrom, groupCase, figureCase}
 use Rattle.figures.specs.declared.Figure.{Figure}
 use Rattle.figures.specs.declared.GroupFigure.{GroupFigure}
-use Rattle.coverage.specs.declared.tally.Tally.{Tally}
 use Rattle.coverage.specs.declared.tally.Tallies.{Tallies}
 use Rattle.coverage.specs.Tallies.{itemTotal, itemCovered, Tallied}
 use Rattle.coverage.specs.Items.{leastsOf, itemWith, meanOf, Within}
-use Rattle.coverage.specs.Answers.{itemAnswer, groupAnswer, TallyOf, TalliesOf}
+use Rattle.coverage.specs.Answers.{itemAnswer, groupAnswer, TalliesOf}
 use Rattle.arrays.proofs.PutLaws.{front-kept}
 use Rattle.coverage.proofs.TallyLaws.{total-exact, covered-exact}
 use Rattle.coverage.proofs.ItemLaws.{least-there, items-few}
@@ -77,10 +76,6 @@ module _ (b : List ℕ) (ok : accepted b ≡ true) (w : List ℕ) (long : longEn
         ∙ ap₂ (λ (n : ℕ) (ns : List ℕ). itemCovered j n (itemsOf (tableOf b) (counters (tableOf b))) (totalFlags (tableOf b) (counters (tableOf b))) ns) e counts
         ∙ covered-exact (tableOf b) j (counters (tableOf b)) (countsOf (tableOf b) w)
 
-    pub tally-whole : (j least : ℕ) (r : Tally) → least ≡ atLeast (tableOf b) j → r .total ≡ itemTotal j (take k xs) (take k fs)
-        → r .covered ≡ itemCovered j least (take k xs) (take k fs) (take k (drop 2 w)) → TallyOf (tableOf b) w j r
-    tally-whole j least r e et ec = record { total-is = et ∙ total-now j; covered-is = ec ∙ covered-now j least e }
-
     pub tallies-whole : (ls₀ ls : List ℕ) (r : Tallies) → ls ≡ put 0 (leastsOf (tableOf b)) ls₀
         → Tallied (take k xs) (take k fs) (take k (drop 2 w)) ls r → TalliesOf (tableOf b) w r
     tallies-whole ls₀ ls r e y = record {
@@ -92,11 +87,11 @@ module _ (b : List ℕ) (ok : accepted b ≡ true) (w : List ℕ) (long : longEn
 
 -- ---- figures
 
-pub figure-exact : (t : Table) (w : List ℕ) (i : ℕ) (y : Tally) → TallyOf t w i y → (r : Figure) → r ≡ figureCase (figureOf (y .covered) (y .total)) → r ≡ itemAnswer t w i
-unfolding itemFigure
-figure-exact t w i y h r e = e ∙ ap₂ (λ (c n : ℕ). figureCase (figureOf c n)) (h .covered-is) (h .total-is)
-
 module _ (t : Table) (w : List ℕ) (y : Tallies) (h : TalliesOf t w y) where
+  pub figure-exact : (i : ℕ) → i < itemCount t → (r : Figure) → r ≡ figureCase (figureOf (getD (y .covered) i 0) (getD (y .totals) i 0)) → r ≡ itemAnswer t w i
+  unfolding itemFigure
+  figure-exact i l r e = e ∙ ap₂ (λ (c n : ℕ). figureCase (figureOf c n)) (h .covered-are i l) (h .totals-are i l)
+
   pub tallies-within : Within (itemCount t) (y .totals) (y .covered)
   unfolding Within
   tallies-within j l = omega (arith, h .totals-are j l, h .covered-are j l, covered-le t j (counters t) (countsOf t w))

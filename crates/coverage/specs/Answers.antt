@@ -11,7 +11,6 @@ use Rattle.model.specs.Register.{countsOf}
 use Rattle.figures.specs.Figures.{figureCase, groupCase}
 use Rattle.figures.specs.declared.Figure.{Figure}
 use Rattle.figures.specs.declared.GroupFigure.{GroupFigure}
-use Rattle.coverage.specs.declared.tally.Tally.{Tally}
 use Rattle.coverage.specs.declared.tally.Tallies.{Tallies}
 
 abbrev pub itemAnswer : Table → List ℕ → ℕ → Figure
@@ -20,11 +19,7 @@ itemAnswer t w i = figureCase (itemFigure t (counters t) (countsOf t w) i)
 abbrev pub groupAnswer : Table → List ℕ → GroupFigure
 groupAnswer t w = groupCase (groupFigure t (counters t) (countsOf t w))
 
--- the tally of the item i in the register w; those of all items
-pub record TallyOf (t : Table) (w : List ℕ) (i : ℕ) (r : Tally) : Type 0 where
-  pub total-is : r .total ≡ total t i (counters t)
-  pub covered-is : r .covered ≡ covered t i (counters t) (countsOf t w)
-
+-- the tallies of all items in the register w
 pub record TalliesOf (t : Table) (w : List ℕ) (r : Tallies) : Type 0 where
   pub totals-sized : length (r .totals) ≡ 256
   pub covered-sized : length (r .covered) ≡ 256

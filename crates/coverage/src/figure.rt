@@ -1,63 +1,114 @@
-// The figures of a register. counters is the table's number of counters.
-use crate::items::item_least;
+// The figures of a register. counters and points are the table's numbers of them.
 use crate::items::mean;
 use crate::items::put_leasts;
 use crate::tally::Tallies;
-use crate::tally::Tally;
 use crate::tally::tally_all;
-use crate::tally::tally_item;
 use figures::Figure;
 use figures::GroupFigure;
 use sampling::put_items;
+use sampling::put_kinds;
 use sampling::put_totals;
 ghost use mathlib.Core.Path.{_≡_};
 ghost use mathlib.Core.Bool.{true};
+ghost use Prim.Native.Nat.{_<_};
+ghost use lib.ListN.{length};
+ghost use Rattle.model.specs.Figures.{itemCount};
 ghost use Rattle.model.specs.Format.{accepted, tableOf};
-ghost use Rattle.model.specs.Register.{counterTotal, longEnough};
-ghost use Rattle.coverage.specs.Answers.{itemAnswer, groupAnswer, TallyOf, TalliesOf};
+ghost use Rattle.model.specs.Register.{counterTotal, pointTotal, longEnough};
+ghost use Rattle.sampling.specs.Index.{Roomy};
+ghost use Rattle.coverage.specs.Answers.{itemAnswer, groupAnswer, TalliesOf};
 
-// One item's total, and how many of it are covered.
-pub fn item_tally(t: &[u8], register: &[u32], item: usize, counters: usize) -> Tally
-    requires { ⌜ (accepted (now t) ≡ true) × (longEnough (tableOf (now t)) (now register) ≡ true) × (counters ≡ counterTotal (tableOf (now t))) ⌝ }
-    ensures { λ r. ⌜ TallyOf (tableOf (now (t .entry))) (now (register .entry)) item r ⌝ }
+// Each item's total, and how many of it are covered, in arrays that have room for the table's counters.
+fn tallies_in(
+    items: &mut [u8],
+    flags: &mut [u8],
+    kinds: &mut [u8],
+    t: &[u8],
+    register: &[u32],
+) -> Tallies
+    requires { ⌜ (accepted (now t) ≡ true) × (longEnough (tableOf (now t)) (now register) ≡ true) ⌝ }
+    requires { ⌜ Roomy (tableOf (now t)) (length (now items)) × Roomy (tableOf (now t)) (length (now flags)) × Roomy (tableOf (now t)) (length (now kinds)) ⌝ }
+    ensures { λ r. ⌜ TalliesOf (tableOf (now (t .entry))) (now (register .entry)) r ⌝ }
 {
-    let mut items = [0u8; 12416];
-    put_items(&mut items, t);
-    let mut flags = [0u8; 12416];
-    put_totals(&mut flags, t);
-    let least = item_least(t, item);
-    tally_item(&items, &flags, register, counters, item, least)
+    let x = put_kinds(kinds, t);
+    put_items(items, t, x);
+    put_totals(flags, t, kinds, x);
+    let mut leasts = [0u32; 256];
+    put_leasts(&mut leasts, t);
+    tally_all(items, flags, register, x.counters, &leasts)
 }
 
-// Those of all items, by one pass over the counters.
-pub fn all_tallies(t: &[u8], register: &[u32], counters: usize) -> Tallies
-    requires { ⌜ (accepted (now t) ≡ true) × (longEnough (tableOf (now t)) (now register) ≡ true) × (counters ≡ counterTotal (tableOf (now t))) ⌝ }
+// ---- size classes: a small table does not pay for the clearing of large arrays
+
+fn small_tallies(t: &[u8], register: &[u32]) -> Tallies
+    requires { ⌜ (accepted (now t) ≡ true) × (longEnough (tableOf (now t)) (now register) ≡ true) × Roomy (tableOf (now t)) 1024 ⌝ }
+    ensures { λ r. ⌜ TalliesOf (tableOf (now (t .entry))) (now (register .entry)) r ⌝ }
+{
+    let mut items = [0u8; 1024];
+    let mut flags = [0u8; 1024];
+    let mut kinds = [0u8; 1024];
+    tallies_in(&mut items, &mut flags, &mut kinds, t, register)
+}
+
+fn medium_tallies(t: &[u8], register: &[u32]) -> Tallies
+    requires { ⌜ (accepted (now t) ≡ true) × (longEnough (tableOf (now t)) (now register) ≡ true) × Roomy (tableOf (now t)) 4096 ⌝ }
+    ensures { λ r. ⌜ TalliesOf (tableOf (now (t .entry))) (now (register .entry)) r ⌝ }
+{
+    let mut items = [0u8; 4096];
+    let mut flags = [0u8; 4096];
+    let mut kinds = [0u8; 4096];
+    tallies_in(&mut items, &mut flags, &mut kinds, t, register)
+}
+
+fn largest_tallies(t: &[u8], register: &[u32]) -> Tallies
+    requires { ⌜ (accepted (now t) ≡ true) × (longEnough (tableOf (now t)) (now register) ≡ true) ⌝ }
     ensures { λ r. ⌜ TalliesOf (tableOf (now (t .entry))) (now (register .entry)) r ⌝ }
 {
     let mut items = [0u8; 12416];
-    put_items(&mut items, t);
     let mut flags = [0u8; 12416];
-    put_totals(&mut flags, t);
-    let mut leasts = [0u32; 256];
-    put_leasts(&mut leasts, t);
-    tally_all(&items, &flags, register, counters, &leasts)
+    let mut kinds = [0u8; 12416];
+    tallies_in(&mut items, &mut flags, &mut kinds, t, register)
+}
+
+// Each item's total, and how many of it are covered.
+pub fn all_tallies(t: &[u8], register: &[u32], counters: usize, points: usize) -> Tallies
+    requires { ⌜ (accepted (now t) ≡ true) × (longEnough (tableOf (now t)) (now register) ≡ true) × (counters ≡ counterTotal (tableOf (now t))) × (points ≡ pointTotal (tableOf (now t))) ⌝ }
+    ensures { λ r. ⌜ TalliesOf (tableOf (now (t .entry))) (now (register .entry)) r ⌝ }
+{
+    if counters <= 1024 {
+        if points <= 4 {
+            return small_tallies(t, register);
+        }
+    }
+    if counters <= 4096 {
+        return medium_tallies(t, register);
+    }
+    largest_tallies(t, register)
 }
 
 // An item's figure.
-pub fn item_figure(t: &[u8], register: &[u32], item: usize, counters: usize) -> Figure
-    requires { ⌜ (accepted (now t) ≡ true) × (longEnough (tableOf (now t)) (now register) ≡ true) × (counters ≡ counterTotal (tableOf (now t))) ⌝ }
+pub fn item_figure(
+    t: &[u8],
+    register: &[u32],
+    item: usize,
+    counters: usize,
+    points: usize,
+) -> Figure
+    requires { ⌜ (accepted (now t) ≡ true) × (longEnough (tableOf (now t)) (now register) ≡ true) × (counters ≡ counterTotal (tableOf (now t))) × (points ≡ pointTotal (tableOf (now t))) × (item < itemCount (tableOf (now t))) ⌝ }
     ensures { λ r. ⌜ r ≡ itemAnswer (tableOf (now (t .entry))) (now (register .entry)) item ⌝ }
 {
-    let y = item_tally(t, register, item, counters);
-    figures::item_figure(y.covered, y.total)
+    let y = all_tallies(t, register, counters, points);
+    let totals = y.totals;
+    let covered = y.covered;
+    figures::item_figure(covered[item], totals[item])
 }
 
 // The group's figure.
-pub fn group_figure(t: &[u8], register: &[u32], counters: usize) -> GroupFigure
-    requires { ⌜ (accepted (now t) ≡ true) × (longEnough (tableOf (now t)) (now register) ≡ true) × (counters ≡ counterTotal (tableOf (now t))) ⌝ }
+pub fn group_figure(t: &[u8], register: &[u32], counters: usize, points: usize) -> GroupFigure
+    requires { ⌜ (accepted (now t) ≡ true) × (longEnough (tableOf (now t)) (now register) ≡ true) × (counters ≡ counterTotal (tableOf (now t))) × (points ≡ pointTotal (tableOf (now t))) ⌝ }
     ensures { λ r. ⌜ r ≡ groupAnswer (tableOf (now (t .entry))) (now (register .entry)) ⌝ }
 {
-    let y = all_tallies(t, register, counters);
+    let y = all_tallies(t, register, counters, points);
     let totals = y.totals;
     let covered = y.covered;
     mean(t, &totals, &covered)

@@ -9,7 +9,7 @@ ghost use mathlib.Core.Bool.{true};
 ghost use Prim.Native.Nat.{_<_, _≤_, _+_};
 ghost use lib.ListN.{length};
 ghost use Rattle.model.specs.Format.{accepted, tableOf};
-ghost use Rattle.model.specs.Figures.{atLeast, weight, itemCount};
+ghost use Rattle.model.specs.Figures.{itemCount};
 ghost use Rattle.arrays.specs.Put.{put};
 ghost use Rattle.coverage.specs.Items.{leastAt, weightAt, leastsAt, leastsOf, meanFrom, meanOf, Within};
 
@@ -39,15 +39,6 @@ pub fn weight_at(t: &[u8], p: usize, n: usize, c: usize, m: usize, i: usize) -> 
         return read2(t, c + 13 * k + 6);
     }
     0
-}
-
-// The item's at-least.
-pub fn item_least(t: &[u8], item: usize) -> u32
-    requires { ⌜ accepted (now t) ≡ true ⌝ }
-    ensures { λ r. ⌜ r ≡ atLeast (tableOf (now (t .entry))) item ⌝ }
-{
-    let l = layout_of(t);
-    least_at(t, l.points, l.point_count, l.crosses, l.cross_count, item)
 }
 
 fn put_leasts_at(leasts: &mut [u32], t: &[u8], p: usize, n: usize, c: usize, m: usize)

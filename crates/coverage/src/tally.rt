@@ -3,15 +3,9 @@ use arrays::raised;
 ghost use mathlib.Core.Path.{_≡_};
 ghost use Prim.Native.Nat.{_<_, _≤_, _+_};
 ghost use lib.ListN.{length, take, drop};
-ghost use Rattle.coverage.specs.Tallies.{itemTotal, itemCovered, Tallied};
+ghost use Rattle.coverage.specs.Tallies.{Tallied};
 
-// One item's.
-pub struct Tally {
-    pub total: u32,
-    pub covered: u32,
-}
-
-// Those of all items, by the item's number.
+// By the item's number.
 pub struct Tallies {
     pub totals: [u32; 256],
     pub covered: [u32; 256],
@@ -23,34 +17,7 @@ fn wide(x: u8) -> usize
     x as usize
 }
 
-// Of n counters, whose counts stand in the register from word 2 on.
-pub fn tally_item(
-    items: &[u8],
-    flags: &[u8],
-    register: &[u32],
-    n: usize,
-    item: usize,
-    least: u32,
-) -> Tally
-    requires { ⌜ (n ≤ length (now items)) × (n ≤ length (now flags)) × (2 + n ≤ length (now register)) × (n ≤ 65536) ⌝ }
-    ensures { λ r. ⌜ (r .total ≡ itemTotal item (take n (now (items .entry))) (take n (now (flags .entry)))) × (r .covered ≡ itemCovered item least (take n (now (items .entry))) (take n (now (flags .entry))) (take n (drop 2 (now (register .entry))))) ⌝ }
-{
-    let mut total: u32 = 0;
-    let mut covered: u32 = 0;
-    let mut i = 0;
-    while i < n {
-        let hit = (wide(items[i]) == item) & (flags[i] == 1);
-        total = raised(total, hit);
-        covered = raised(covered, hit & (least <= register[2 + i]));
-        i += 1;
-    }
-    Tally {
-        total: total,
-        covered: covered,
-    }
-}
-
-// The same for every item, whose at-leasts are lent.
+// Of n counters, whose counts stand in the register from word 2 on; the items' at-leasts are lent.
 pub fn tally_all(items: &[u8], flags: &[u8], register: &[u32], n: usize, leasts: &[u32]) -> Tallies
     requires { ⌜ (n ≤ length (now items)) × (n ≤ length (now flags)) × (2 + n ≤ length (now register)) × (n ≤ 65536) × (256 ≤ length (now leasts)) ⌝ }
     ensures { λ r. ⌜ Tallied (take n (now (items .entry))) (take n (now (flags .entry))) (take n (drop 2 (now (register .entry)))) (now (leasts .entry)) r ⌝ }

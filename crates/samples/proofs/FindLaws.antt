@@ -22,8 +22,7 @@ use Rattle.arrays.specs.Put.{put}
 use Rattle.arrays.specs.Flat.{hitFlags, kindOf, kindsOf, readingCodes, Readings}
 use Rattle.arrays.proofs.PutLaws.{part-put}
 use Rattle.samples.specs.Writes.{runsAfter, flagsAfter}
-use Rattle.arrays.proofs.PutLaws.{front-put, front-kept}
-use Rattle.sampling.specs.Index.{Labelled}
+use Rattle.arrays.proofs.PutLaws.{front-put}
 use Rattle.samples.proofs.WriteLaws.{codes-length, runs-after-length}
 
 pub kinds-length : (t : Table) → length (kindsOf (counters t)) ≡ counterTotal t
@@ -75,8 +74,3 @@ module _ (b : List ℕ) (ok : accepted b ≡ true) where
         let told : take (length bins) lens ≡ allLengths bins (runsAfter (tableOf b) s w) =
         ap (take (length bins)) e₂ ∙ front-put (length bins) (allLengths bins (take (runTotal (tableOf b)) (drop at w₁))) lens₀ (length-lengths bins _) (omega (arith, transitions-few)) ∙ ap (allLengths bins) there in
         e₃ ∙ ap (λ (ls : List ℕ). put 0 (hitFlags (tableOf b) s (runStretches ls) (counters (tableOf b))) f₀) told
-
--- the kinds as they were written
-pub labelled : (t : Table) (l kinds : List ℕ) → kinds ≡ put 0 (kindsOf (counters t)) l → length kinds ≡ length l → Labelled t kinds
-unfolding Labelled
-labelled t l kinds e k = front-kept (counterTotal t) (kindsOf (counters t)) l kinds (kinds-length t) e k .0

@@ -24,7 +24,7 @@ use Rattle.arrays.specs.Put.{put}
 use Rattle.arrays.specs.Flat.{hitFlags, totalFlags, kindsOf, kindOf, itemsOf, allPointCounters, allCrossCounters, pointStart, pointStarts, Tells, coverCounts}
 use Rattle.points.specs.Gates.{Kinded, Flagged, Gathered}
 use Rattle.sampling.specs.Index.{Roomy, Labelled}
-use Rattle.arrays.proofs.PutLaws.{put-next, front-put}
+use Rattle.arrays.proofs.PutLaws.{put-next, front-put, front-kept}
 use Rattle.arrays.proofs.FlatLaws.{counts-length, kinds-length}
 
 joined : {A : Type 0} (f : Counter → A) (xs ys : List Counter) (n : ℕ) (l m r : List A) → n ≡ length xs → n ≤ length l
@@ -121,3 +121,8 @@ labelled-points t kinds e =
     let ys = allCrossCounters t in
     sym (take-take (pointCount t) (counterTotal t) kinds (omega (arith, all-count t))) ∙ ap (take (pointCount t)) (e ∙ map-append kindOf xs ys)
     ∙ take-at (map kindOf xs) (map kindOf ys) (pointCount t) (length-map xs kindOf)
+
+-- the kinds as they were written
+pub labelled : (t : Table) (l kinds : List ℕ) → kinds ≡ put 0 (kindsOf (counters t)) l → length kinds ≡ length l → Labelled t kinds
+unfolding Labelled
+labelled t l kinds e k = front-kept (counterTotal t) (kindsOf (counters t)) l kinds (kinds-length (counters t)) e k .0

@@ -1,8 +1,7 @@
--- `coverage::figure::group_figure` meets its contract. Assumes nothing.
+use borrow.Author.Needs.{needs}
 use native.Mathlib.Omega.{arith}
 use Rattle.model.specs.Format.{tableOf}
 use Rattle.coverage.proofs.AnswerLaws.{tallies-within, group-exact}
-use borrow.Author.Needs.{needs}
 use Rattle.coverage.proofs.figure.group_figure.Statement.{statement}
 use Rattle.coverage.proofs.figure.group_figure.Tie as tie
 
@@ -18,12 +17,14 @@ slice-aggregate-mean-2 c = search needs
 mean-requires : tie.Need-mean-requires
 mean-requires c κs =
     let a = c .before .before .before .before .before .before .before .args in
-    (c .before .before .before .before .before .before .before .pre .0, omega (arith, c .before .before .before .before .all-tallies .ensures .totals-sized), omega (arith, c .before .before .before .before .all-tallies .ensures .covered-sized), tallies-within (tableOf (a .t .now)) (a .register .now) (c .before .before .before .before .all-tallies .result) (c .before .before .before .before .all-tallies .ensures))
+    let y = c .before .before .before .before .all-tallies in
+    (c .before .before .before .before .before .before .before .pre .0, omega (arith, y .ensures .totals-sized), omega (arith, y .ensures .covered-sized), tallies-within (tableOf (a .t .now)) (a .register .now) (y .result) (y .ensures))
 
 returns : tie.Need-returns
 returns c =
     let a = c .before .before .before .before .before .before .before .before .args in
-    group-exact (tableOf (a .t .now)) (a .register .now) (c .before .before .before .before .before .all-tallies .result) (c .before .before .before .before .before .all-tallies .ensures) (c .mean .result) (c .mean .ensures)
+    let y = c .before .before .before .before .before .all-tallies in
+    group-exact (tableOf (a .t .now)) (a .register .now) (y .result) (y .ensures) (c .mean .result) (c .mean .ensures)
 
 pub group-figure-spec : {M : Type 1} → statement M
 group-figure-spec =

@@ -10,7 +10,8 @@ use Rattle.arrays.specs.Put.{put}
 use Rattle.arrays.specs.Flat.{kindsOf}
 use Rattle.arrays.proofs.PutLaws.{front-kept}
 use Rattle.samples.specs.Adds.{illegalFlags}
-use Rattle.samples.proofs.FindLaws.{kinds-length, labelled}
+use Rattle.sampling.proofs.Joins.{labelled}
+use Rattle.samples.proofs.FindLaws.{kinds-length}
 use Rattle.samples.proofs.Passed.{all-passed}
 use Rattle.samples.proofs.Whole.{countable-now, flags-room, codes-room, report-room, words-whole, report-whole}
 use Rattle.samples.proofs.write.write_in.Statement.{statement}
