@@ -110,4 +110,5 @@ unfolding callTests
 item-part f w i items r p = record {
   exact = λ t d e. p .exact t d ∙ ap (λ (n : ℕ). firstFailed (registerTests t w ++ (ltb i n, 14) ∷ [])) e;
   long = p .long;
+  inside = p .inside;
 }

@@ -52,6 +52,7 @@ pub record PartRefusal (f : Facts) (w : List ℕ) (i n : ℕ) (r : ℕ) : Type 0
 pub record ItemRefusal (f : Facts) (w : List ℕ) (i items : ℕ) (r : ℕ) : Type 0 where
   pub exact : (t : Table) → Describes f t → items ≡ itemCount t → r ≡ firstFailed (callTests t w (askItem i))
   pub long : r ≡ 0 → wordsOf f ≤ length w
+  pub inside : r ≡ 0 → i < items
 
 -- ---- a sample's tests
 

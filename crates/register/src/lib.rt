@@ -166,7 +166,7 @@ pub fn item_figure(table: &[u8], register: &[u32], item: usize) -> ItemAnswer
             figure: Figure::Nothing,
         };
     }
-    let figure = coverage::figure::item_figure(table, register, item, f.counters);
+    let figure = coverage::figure::item_figure(table, register, item, f.counters, f.points);
     ItemAnswer {
         number: 0,
         figure: figure,
@@ -193,7 +193,7 @@ pub fn group_figure(table: &[u8], register: &[u32]) -> GroupAnswer
             figure: GroupFigure::Missing,
         };
     }
-    let figure = coverage::figure::group_figure(table, register, f.counters);
+    let figure = coverage::figure::group_figure(table, register, f.counters, f.points);
     GroupAnswer {
         number: 0,
         figure: figure,

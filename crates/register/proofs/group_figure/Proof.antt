@@ -34,7 +34,7 @@ group-figure-requires c κs =
     let told = c .before .before .before .facts .ensures .0 in
     let z = c .before .before .if1 .left in
     let t = table-known _ _ told z in
-    (known-accepted _ (t .0), known-long _ _ (a .args .register .now) (t .1) (c .before .register-refusal .ensures .long (c .if2 .left)), t .1 .counters)
+    (known-accepted _ (t .0), known-long _ _ (a .args .register .now) (t .1) (c .before .register-refusal .ensures .long (c .if2 .left)), t .1 .counters, t .1 .points)
 
 returns-3 : tie.Need-returns-3
 unfolding accept callTests

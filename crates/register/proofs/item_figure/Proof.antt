@@ -1,4 +1,5 @@
 use mathlib.Core.Path.{_≡_, sym, ap, _∙_}
+use native.Mathlib.Omega.{arith}
 use Rattle.model.specs.Register.{Effect, accept, askItem}
 use Rattle.register.specs.Answers.{itemAnswer}
 use Rattle.register.proofs.CallLaws.{table-refuses, table-known, tests-refuse, tests-accept}
@@ -40,7 +41,9 @@ item-figure-requires c κs =
     let told = c .before .before .before .before .before .facts .ensures .0 in
     let z = c .before .before .before .before .if1 .left in
     let t = table-known _ _ told z in
-    (known-accepted _ (t .0), known-long _ _ (a .args .register .now) (t .1) (c .before .item-refusal .ensures .long (c .if2 .left)), t .1 .counters)
+    let n = items-known _ _ (c .before .before .before .layout-of .ensures .0) (t .0) in
+    let r = c .before .item-refusal .ensures in
+    (known-accepted _ (t .0), known-long _ _ (a .args .register .now) (t .1) (r .long (c .if2 .left)), t .1 .counters, t .1 .points, omega (arith, n, r .inside (c .if2 .left)))
 
 returns-3 : tie.Need-returns-3
 unfolding accept
