@@ -1,6 +1,7 @@
 // The lengths at which each transition bin matches, by its run words.
 use crate::steps::ranges_past;
 use crate::steps::steps_at;
+use layout::Layout;
 use layout::layout_of;
 use sequences::lengths_at;
 use sequences::run_length;
@@ -63,26 +64,18 @@ fn bin_lengths(
     }
 }
 
-// The same of n transition bins, whose records stand from b on: one word for each.
-fn bins_lengths(
-    lens: &mut [u32],
-    t: &[u8],
-    register: &[u32],
-    at: usize,
-    b: usize,
-    q: usize,
-    p: usize,
-    r: usize,
-    n: usize,
-)
-    requires { ⌜ (n ≤ length (now lens)) × (b ≤ 16777216) × (q ≤ 16777216) × (p ≤ 16777216) × (r ≤ 16777216) × (n ≤ 64) ⌝ }
-    requires { ⌜ (all binFits (transitionsAt (now t) b q p r n) ≡ true) × (at + sumOf binWords (transitionsAt (now t) b q p r n) ≤ length (now register)) ⌝ }
-    ensures { λ _. ⌜ now (lens .exit) ≡ put 0 (allLengths (transitionsAt (now (t .entry)) b q p r n) (drop at (now (register .entry)))) (now (lens .entry)) ⌝ }
+// The same of the transition bins of a table with that layout: one word for each.
+fn bins_lengths(lens: &mut [u32], t: &[u8], register: &[u32], at: usize, l: Layout)
+    requires { ⌜ (l .«transition_count» ≤ length (now lens)) × (l .transitions ≤ 16777216) × (l .sequences ≤ 16777216) × (l .steps ≤ 16777216) × (l .«step_ranges» ≤ 16777216) × (l .«transition_count» ≤ 64) ⌝ }
+    requires { ⌜ (all binFits (transitionsAt (now t) (l .transitions) (l .sequences) (l .steps) (l .«step_ranges») (l .«transition_count»)) ≡ true) × (at + sumOf binWords (transitionsAt (now t) (l .transitions) (l .sequences) (l .steps) (l .«step_ranges») (l .«transition_count»)) ≤ length (now register)) ⌝ }
+    ensures { λ _. ⌜ now (lens .exit) ≡ put 0 (allLengths (transitionsAt (now (t .entry)) (l .transitions) (l .sequences) (l .steps) (l .«step_ranges») (l .«transition_count»)) (drop at (now (register .entry)))) (now (lens .entry)) ⌝ }
 {
+    let b = l.transitions;
+    let n = l.transition_count;
     let mut words = at;
-    let mut sequence = q;
-    let mut steps = p;
-    let mut ranges = r;
+    let mut sequence = l.sequences;
+    let mut steps = l.steps;
+    let mut ranges = l.step_ranges;
     let mut i = 0;
     while i < n {
         let k = byte(t, b + 4 * i + 3) as usize;
@@ -102,15 +95,5 @@ pub fn put_lengths(lens: &mut [u32], t: &[u8], register: &[u32], at: usize)
     ensures { λ _. ⌜ now (lens .exit) ≡ put 0 (allLengths (tableOf (now (t .entry)) .transitionBins) (take (runTotal (tableOf (now (t .entry)))) (drop at (now (register .entry))))) (now (lens .entry)) ⌝ }
 {
     let l = layout_of(t);
-    bins_lengths(
-        lens,
-        t,
-        register,
-        at,
-        l.transitions,
-        l.sequences,
-        l.steps,
-        l.step_ranges,
-        l.transition_count,
-    );
+    bins_lengths(lens, t, register, at, l);
 }
