@@ -1,4 +1,5 @@
 // The next run of every sequence, written over its words in the register.
+use crate::steps::Place;
 use crate::steps::ranges_past;
 use crate::steps::steps_at;
 use layout::Layout;
@@ -19,13 +20,6 @@ ghost use Rattle.model.specs.Register.{sequences, runTotal, nextRuns};
 ghost use Rattle.arrays.specs.Put.{put};
 ghost use Rattle.arrays.specs.Flat.{Readings};
 ghost use Rattle.runs.specs.Runs.{readingFrom, binRuns, binWords, allRuns, sequenceFits, binFits, Ends};
-
-// Where the words of some sequences begin in the register, and their steps and step ranges in the table.
-struct Place {
-    words: usize,
-    steps: usize,
-    ranges: usize,
-}
 
 // The next run of a sequence of n steps, whose records stand from p on, their ranges from r on. Its words stand from a on. Answers where they end.
 fn advance_sequence(
