@@ -7,6 +7,7 @@ pub mod tokens;
 use crate::bins::cross_bin_section;
 use crate::heads::cross_section;
 use crate::selects::token_section;
+use layout::Section;
 use words::bytes::read2;
 use words::verdicts::Verdict;
 ghost use mathlib.Core.Path.{_≡_};
@@ -34,5 +35,19 @@ pub fn crosses(t: &[u8], points: usize, np: usize, bins: usize, nb: usize, at: u
     if b.class != 0 {
         return b;
     }
-    token_section(t, points, np, bins, nb, c, ninth + 2, n, b.at)
+    token_section(
+        t,
+        Section {
+            at: points,
+            count: np,
+        },
+        Section {
+            at: bins,
+            count: nb,
+        },
+        c,
+        ninth + 2,
+        n,
+        b.at,
+    )
 }

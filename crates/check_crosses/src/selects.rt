@@ -1,6 +1,7 @@
 // Section 10: the expressions that select tokens make, cross bin by cross bin.
 use crate::bins::owned_bins;
 use crate::tokens::tokens;
+use layout::Section;
 use words::bytes::byte;
 use words::counts::owned_count;
 use words::verdicts::Verdict;
@@ -66,23 +67,14 @@ fn last_token(end: usize) -> usize
     if end < 20 { 0 } else { end - 20 }
 }
 
-// The tokens from at on of the cross bin at b, of the cross at c. points, bins: the places of the first of np points and of nb value bins.
-fn select(
-    t: &[u8],
-    points: usize,
-    np: usize,
-    bins: usize,
-    nb: usize,
-    c: usize,
-    b: usize,
-    at: usize,
-) -> Verdict
-    requires { ⌜ (at ≤ length (now t)) × (length (now t) ≤ 65536) × (points + 11 * np ≤ length (now t)) × (bins ≤ 65536) × (c ≤ 65536) × (b ≤ 10000000) ⌝ }
-    requires { ⌜ AllWide (now t) points np × CrossOk (now t) np c ⌝ }
-    ensures { λ r. ⌜ r ≡ verdictOf (readSelect (now (t .entry)) (pointsAt (now (t .entry)) points np) (rows (binHead (now (t .entry))) 8 bins nb) (crossBinHead (now (t .entry)) (crossPoints (now (t .entry)) c) b) at) ⌝ }
+// The tokens from at on of the cross bin at b, of the cross at c, in a table with these sections of points and of value bins.
+fn select(t: &[u8], points: Section, bins: Section, c: usize, b: usize, at: usize) -> Verdict
+    requires { ⌜ (at ≤ length (now t)) × (length (now t) ≤ 65536) × (points .at + 11 * points .count ≤ length (now t)) × (bins .at ≤ 65536) × (c ≤ 65536) × (b ≤ 10000000) ⌝ }
+    requires { ⌜ AllWide (now t) (points .at) (points .count) × CrossOk (now t) (points .count) c ⌝ }
+    ensures { λ r. ⌜ r ≡ verdictOf (readSelect (now (t .entry)) (pointsAt (now (t .entry)) (points .at) (points .count)) (rows (binHead (now (t .entry))) 8 (bins .at) (bins .count)) (crossBinHead (now (t .entry)) (crossPoints (now (t .entry)) c) b) at) ⌝ }
 {
     let n = byte(t, b + 2) as usize;
-    let r = tokens(t, points, np, bins, nb, c, n, at);
+    let r = tokens(t, points, bins, c, n, at);
     if r.class != 0 {
         return r;
     }
@@ -94,24 +86,22 @@ fn select(
 // The tokens of n cross bins of the cross at c, the first of them at b.
 fn selects(
     t: &[u8],
-    points: usize,
-    np: usize,
-    bins: usize,
-    nb: usize,
+    points: Section,
+    bins: Section,
     c: usize,
     b: usize,
     n: usize,
     start: usize,
 ) -> Verdict
-    requires { ⌜ (start ≤ length (now t)) × (length (now t) ≤ 65536) × (points + 11 * np ≤ length (now t)) × (bins ≤ 65536) × (c ≤ 65536) × (b ≤ 9000000) × (n ≤ 255) ⌝ }
-    requires { ⌜ AllWide (now t) points np × CrossOk (now t) np c ⌝ }
-    ensures { λ r. ⌜ r ≡ verdictOf (each (readSelect (now (t .entry)) (pointsAt (now (t .entry)) points np) (rows (binHead (now (t .entry))) 8 bins nb)) (crossBinHeadsAt (now (t .entry)) c b n) start) ⌝ }
+    requires { ⌜ (start ≤ length (now t)) × (length (now t) ≤ 65536) × (points .at + 11 * points .count ≤ length (now t)) × (bins .at ≤ 65536) × (c ≤ 65536) × (b ≤ 9000000) × (n ≤ 255) ⌝ }
+    requires { ⌜ AllWide (now t) (points .at) (points .count) × CrossOk (now t) (points .count) c ⌝ }
+    ensures { λ r. ⌜ r ≡ verdictOf (each (readSelect (now (t .entry)) (pointsAt (now (t .entry)) (points .at) (points .count)) (rows (binHead (now (t .entry))) 8 (bins .at) (bins .count))) (crossBinHeadsAt (now (t .entry)) c b n) start) ⌝ }
 {
     let mut at = start;
     let mut bin = b;
     let mut i = 0;
     while i < n {
-        let r = select(t, points, np, bins, nb, c, bin, at);
+        let r = select(t, points, bins, c, bin, at);
         if r.class != 0 {
             return r;
         }
@@ -125,18 +115,16 @@ fn selects(
 // The tokens of all bins of n crosses, the first of them at c, the first of their bins at b.
 fn all_selects(
     t: &[u8],
-    points: usize,
-    np: usize,
-    bins: usize,
-    nb: usize,
+    points: Section,
+    bins: Section,
     c: usize,
     b: usize,
     n: usize,
     start: usize,
 ) -> Verdict
-    requires { ⌜ (start ≤ length (now t)) × (length (now t) ≤ 65536) × (points + 11 * np ≤ length (now t)) × (bins ≤ 65536) × (c + 13 * n ≤ length (now t)) × (b ≤ length (now t)) ⌝ }
-    requires { ⌜ AllWide (now t) points np × CrossesOk (now t) np c n ⌝ }
-    ensures { λ r. ⌜ r ≡ verdictOf (each (readSelects (now (t .entry)) (pointsAt (now (t .entry)) points np) (rows (binHead (now (t .entry))) 8 bins nb)) (crossHeadsAt (now (t .entry)) c b n) start) ⌝ }
+    requires { ⌜ (start ≤ length (now t)) × (length (now t) ≤ 65536) × (points .at + 11 * points .count ≤ length (now t)) × (bins .at ≤ 65536) × (c + 13 * n ≤ length (now t)) × (b ≤ length (now t)) ⌝ }
+    requires { ⌜ AllWide (now t) (points .at) (points .count) × CrossesOk (now t) (points .count) c n ⌝ }
+    ensures { λ r. ⌜ r ≡ verdictOf (each (readSelects (now (t .entry)) (pointsAt (now (t .entry)) (points .at) (points .count)) (rows (binHead (now (t .entry))) 8 (bins .at) (bins .count))) (crossHeadsAt (now (t .entry)) c b n) start) ⌝ }
 {
     let mut at = start;
     let mut cross = c;
@@ -144,7 +132,7 @@ fn all_selects(
     let mut i = 0;
     while i < n {
         let k = byte(t, cross + 12) as usize;
-        let r = selects(t, points, np, bins, nb, cross, bin, k, at);
+        let r = selects(t, points, bins, cross, bin, k, at);
         if r.class != 0 {
             return r;
         }
@@ -172,21 +160,19 @@ fn owned_tokens(t: &[u8], n: usize, base: usize) -> usize
     sum
 }
 
-// Section 10, at at. points, bins, c, b: the places of the first of np points, of nb value bins, of n crosses and of their cross bins.
+// Section 10, at at, after these points and value bins. c, b: the places of the first of n crosses and of their cross bins.
 pub fn token_section(
     t: &[u8],
-    points: usize,
-    np: usize,
-    bins: usize,
-    nb: usize,
+    points: Section,
+    bins: Section,
     c: usize,
     b: usize,
     n: usize,
     at: usize,
 ) -> Verdict
-    requires { ⌜ (at ≤ length (now t)) × (length (now t) ≤ 65536) × (points + 11 * np ≤ length (now t)) × (bins + 8 * nb ≤ length (now t)) × (c + 13 * n ≤ length (now t)) × (b ≤ length (now t)) ⌝ }
-    requires { ⌜ AllWide (now t) points np × CrossesOk (now t) np c n ⌝ }
-    ensures { λ r. ⌜ r ≡ verdictOf (readTokenSection (now (t .entry)) (pointsAt (now (t .entry)) points np) (rows (binHead (now (t .entry))) 8 bins nb) (crossHeadsAt (now (t .entry)) c b n) at) ⌝ }
+    requires { ⌜ (at ≤ length (now t)) × (length (now t) ≤ 65536) × (points .at + 11 * points .count ≤ length (now t)) × (bins .at + 8 * bins .count ≤ length (now t)) × (c + 13 * n ≤ length (now t)) × (b ≤ length (now t)) ⌝ }
+    requires { ⌜ AllWide (now t) (points .at) (points .count) × CrossesOk (now t) (points .count) c n ⌝ }
+    ensures { λ r. ⌜ r ≡ verdictOf (readTokenSection (now (t .entry)) (pointsAt (now (t .entry)) (points .at) (points .count)) (rows (binHead (now (t .entry))) 8 (bins .at) (bins .count)) (crossHeadsAt (now (t .entry)) c b n) at) ⌝ }
 {
     let m = owned_bins(t, n, c);
     let sum = owned_tokens(t, m, b);
@@ -194,5 +180,5 @@ pub fn token_section(
     if r.class != 0 {
         return r;
     }
-    all_selects(t, points, np, bins, nb, c, b, n, r.at)
+    all_selects(t, points, bins, c, b, n, r.at)
 }

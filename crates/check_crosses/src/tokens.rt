@@ -1,4 +1,5 @@
 // Section 10: the records of select tokens.
+use layout::Section;
 use ranges::value_tests;
 use words::bytes::byte;
 use words::bytes::inside;
@@ -123,19 +124,11 @@ fn token_rules(t: &[u8], parts: u8, point: usize, token: Token, names: bool, at:
     test(known, 6, at, choose(op <= 2, a, b))
 }
 
-// The token at at, of the cross at c. points, bins: the places of the first of np points and of nb value bins.
-fn token_fault(
-    t: &[u8],
-    points: usize,
-    np: usize,
-    bins: usize,
-    nb: usize,
-    c: usize,
-    at: usize,
-) -> Verdict
-    requires { ⌜ (at ≤ length (now t)) × (length (now t) ≤ 65536) × (points + 11 * np ≤ length (now t)) × (bins ≤ 65536) × (c ≤ 65536) ⌝ }
-    requires { ⌜ AllWide (now t) points np × CrossOk (now t) np c ⌝ }
-    ensures { λ r. ⌜ r ≡ verdictOf (readToken (now (t .entry)) (pointsAt (now (t .entry)) points np) (rows (binHead (now (t .entry))) 8 bins nb) (crossPoints (now (t .entry)) c) at) ⌝ }
+// The token at at, of the cross at c, in a table with these sections of points and of value bins.
+fn token_fault(t: &[u8], points: Section, bins: Section, c: usize, at: usize) -> Verdict
+    requires { ⌜ (at ≤ length (now t)) × (length (now t) ≤ 65536) × (points .at + 11 * points .count ≤ length (now t)) × (bins .at ≤ 65536) × (c ≤ 65536) ⌝ }
+    requires { ⌜ AllWide (now t) (points .at) (points .count) × CrossOk (now t) (points .count) c ⌝ }
+    ensures { λ r. ⌜ r ≡ verdictOf (readToken (now (t .entry)) (pointsAt (now (t .entry)) (points .at) (points .count)) (rows (binHead (now (t .entry))) 8 (bins .at) (bins .count)) (crossPoints (now (t .entry)) c) at) ⌝ }
 {
     if t.len() < at + 20 {
         return fault(2, at);
@@ -143,29 +136,20 @@ fn token_fault(
     let parts = byte(t, c);
     let token = token_at(t, at);
     let p = point_of(t, c, token.position);
-    let names = named(t, bins, nb, p, token);
-    token_rules(t, parts, points + 11 * p, token, names, at)
+    let names = named(t, bins.at, bins.count, p, token);
+    token_rules(t, parts, points.at + 11 * p, token, names, at)
 }
 
-// n tokens from start on.
-pub fn tokens(
-    t: &[u8],
-    points: usize,
-    np: usize,
-    bins: usize,
-    nb: usize,
-    c: usize,
-    n: usize,
-    start: usize,
-) -> Verdict
-    requires { ⌜ (start ≤ length (now t)) × (length (now t) ≤ 65536) × (points + 11 * np ≤ length (now t)) × (bins ≤ 65536) × (c ≤ 65536) ⌝ }
-    requires { ⌜ AllWide (now t) points np × CrossOk (now t) np c ⌝ }
-    ensures { λ r. ⌜ r ≡ verdictOf (times n (readToken (now (t .entry)) (pointsAt (now (t .entry)) points np) (rows (binHead (now (t .entry))) 8 bins nb) (crossPoints (now (t .entry)) c)) start) ⌝ }
+// n such tokens from start on.
+pub fn tokens(t: &[u8], points: Section, bins: Section, c: usize, n: usize, start: usize) -> Verdict
+    requires { ⌜ (start ≤ length (now t)) × (length (now t) ≤ 65536) × (points .at + 11 * points .count ≤ length (now t)) × (bins .at ≤ 65536) × (c ≤ 65536) ⌝ }
+    requires { ⌜ AllWide (now t) (points .at) (points .count) × CrossOk (now t) (points .count) c ⌝ }
+    ensures { λ r. ⌜ r ≡ verdictOf (times n (readToken (now (t .entry)) (pointsAt (now (t .entry)) (points .at) (points .count)) (rows (binHead (now (t .entry))) 8 (bins .at) (bins .count)) (crossPoints (now (t .entry)) c)) start) ⌝ }
 {
     let mut at = start;
     let mut i = 0;
     while i < n {
-        let r = token_fault(t, points, np, bins, nb, c, at);
+        let r = token_fault(t, points, bins, c, at);
         if r.class != 0 {
             return r;
         }

@@ -9,6 +9,7 @@ use crate::sequences::sequence_section;
 use crate::step_ranges::step_range_section;
 use crate::steps::step_section;
 use crate::transitions::transition_section;
+use layout::Section;
 use words::bytes::read2;
 use words::verdicts::Verdict;
 ghost use mathlib.Core.Path.{_≡_};
@@ -41,5 +42,16 @@ pub fn transition_bins(t: &[u8], points: usize, np: usize, at: usize) -> Verdict
     if steps.class != 0 {
         return steps;
     }
-    step_range_section(t, points, np, b, q, sixth + 2, n, steps.at)
+    step_range_section(
+        t,
+        Section {
+            at: points,
+            count: np,
+        },
+        b,
+        q,
+        sixth + 2,
+        n,
+        steps.at,
+    )
 }

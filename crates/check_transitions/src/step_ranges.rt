@@ -1,5 +1,6 @@
 // Section 7: step ranges.
 use crate::sums::sum_bytes;
+use layout::Section;
 use ranges::ranges_of;
 use words::bytes::byte;
 use words::counts::owned_count;
@@ -17,39 +18,30 @@ ghost use Rattle.ranges.specs.Types.{AllWide};
 ghost use Rattle.words.specs.Points.{PointsBelow};
 ghost use Rattle.check_transitions.specs.Sums.{byteSum};
 
-// The ranges of the k steps whose records begin at p, of the bin whose record is at b; the np points' records begin at points.
-fn bin_ranges(
-    t: &[u8],
-    points: usize,
-    np: usize,
-    b: usize,
-    p: usize,
-    k: usize,
-    at: usize,
-) -> Verdict
-    requires { ⌜ (at ≤ length (now t)) × (length (now t) ≤ 65536) × (points + 11 * np ≤ length (now t)) × (p ≤ 1000000000000) × (k ≤ 10000000000) ⌝ }
-    requires { ⌜ (getD (now t) b 0 < np) × AllWide (now t) points np ⌝ }
-    ensures { λ r. ⌜ r ≡ verdictOf (times (byteSum (now (t .entry)) 3 p k) (readRange (now (t .entry)) (getD (pointsAt (now (t .entry)) points np) (getD (now (t .entry)) b 0) noPoint) true) at) ⌝ }
+// The ranges of the k steps whose records begin at p, of the bin whose record is at b, in a table with these points.
+fn bin_ranges(t: &[u8], points: Section, b: usize, p: usize, k: usize, at: usize) -> Verdict
+    requires { ⌜ (at ≤ length (now t)) × (length (now t) ≤ 65536) × (points .at + 11 * points .count ≤ length (now t)) × (p ≤ 1000000000000) × (k ≤ 10000000000) ⌝ }
+    requires { ⌜ (getD (now t) b 0 < points .count) × AllWide (now t) (points .at) (points .count) ⌝ }
+    ensures { λ r. ⌜ r ≡ verdictOf (times (byteSum (now (t .entry)) 3 p k) (readRange (now (t .entry)) (getD (pointsAt (now (t .entry)) (points .at) (points .count)) (getD (now (t .entry)) b 0) noPoint) true) at) ⌝ }
 {
     let point = byte(t, b) as usize;
     let n = sum_bytes(t, 3, p, k);
-    ranges_of(t, points + 11 * point, true, n, at)
+    ranges_of(t, points.at + 11 * point, true, n, at)
 }
 
 // The step ranges of n transition bins from start on.
 fn ranges_each(
     t: &[u8],
-    points: usize,
-    np: usize,
+    points: Section,
     b: usize,
     q: usize,
     p: usize,
     n: usize,
     start: usize,
 ) -> Verdict
-    requires { ⌜ (start ≤ length (now t)) × (length (now t) ≤ 65536) × (points + 11 * np ≤ length (now t)) × (b + 4 * n ≤ length (now t)) × (q ≤ length (now t)) × (p ≤ length (now t)) ⌝ }
-    requires { ⌜ PointsBelow (now t) 4 b n np × AllWide (now t) points np ⌝ }
-    ensures { λ r. ⌜ r ≡ verdictOf (each (readTransitionRanges (now (t .entry)) (pointsAt (now (t .entry)) points np)) (transitionHeadsAt (now (t .entry)) b q p n) start) ⌝ }
+    requires { ⌜ (start ≤ length (now t)) × (length (now t) ≤ 65536) × (points .at + 11 * points .count ≤ length (now t)) × (b + 4 * n ≤ length (now t)) × (q ≤ length (now t)) × (p ≤ length (now t)) ⌝ }
+    requires { ⌜ PointsBelow (now t) 4 b n (points .count) × AllWide (now t) (points .at) (points .count) ⌝ }
+    ensures { λ r. ⌜ r ≡ verdictOf (each (readTransitionRanges (now (t .entry)) (pointsAt (now (t .entry)) (points .at) (points .count))) (transitionHeadsAt (now (t .entry)) b q p n) start) ⌝ }
 {
     let mut at = start;
     let mut bin = b;
@@ -59,7 +51,7 @@ fn ranges_each(
     while i < n {
         let m = byte(t, bin + 3) as usize;
         let k = sum_bytes(t, 1, sequence, m);
-        let r = bin_ranges(t, points, np, bin, step, k, at);
+        let r = bin_ranges(t, points, bin, step, k, at);
         if r.class != 0 {
             return r;
         }
@@ -72,21 +64,19 @@ fn ranges_each(
     sound(at)
 }
 
-// The section whose count is at at. The np points' records begin at points, those of the n transition bins at b, of their sequences at q, of
-// their steps at p.
+// The section whose count is at at. The records of the n transition bins begin at b, of their sequences at q, of their steps at p.
 pub fn step_range_section(
     t: &[u8],
-    points: usize,
-    np: usize,
+    points: Section,
     b: usize,
     q: usize,
     p: usize,
     n: usize,
     at: usize,
 ) -> Verdict
-    requires { ⌜ (at ≤ length (now t)) × (length (now t) ≤ 65536) × (points + 11 * np ≤ length (now t)) × (b + 4 * n ≤ length (now t)) × (q ≤ length (now t)) × (p ≤ length (now t)) ⌝ }
-    requires { ⌜ PointsBelow (now t) 4 b n np × AllWide (now t) points np ⌝ }
-    ensures { λ r. ⌜ r ≡ verdictOf (readStepRangeSection (now (t .entry)) (pointsAt (now (t .entry)) points np) (transitionHeadsAt (now (t .entry)) b q p n) at) ⌝ }
+    requires { ⌜ (at ≤ length (now t)) × (length (now t) ≤ 65536) × (points .at + 11 * points .count ≤ length (now t)) × (b + 4 * n ≤ length (now t)) × (q ≤ length (now t)) × (p ≤ length (now t)) ⌝ }
+    requires { ⌜ PointsBelow (now t) 4 b n (points .count) × AllWide (now t) (points .at) (points .count) ⌝ }
+    ensures { λ r. ⌜ r ≡ verdictOf (readStepRangeSection (now (t .entry)) (pointsAt (now (t .entry)) (points .at) (points .count)) (transitionHeadsAt (now (t .entry)) b q p n) at) ⌝ }
 {
     let sequences = sum_bytes(t, 4, b + 3, n);
     let steps = sum_bytes(t, 1, q, sequences);
@@ -95,5 +85,5 @@ pub fn step_range_section(
     if c.class != 0 {
         return c;
     }
-    ranges_each(t, points, np, b, q, p, n, c.at)
+    ranges_each(t, points, b, q, p, n, c.at)
 }

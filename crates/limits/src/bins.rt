@@ -1,6 +1,7 @@
 // What the value bins add to the entries of their points, in one pass.
 use crate::entries::add;
 use crate::values::per_value;
+use layout::Layout;
 use words::bytes::byte;
 use words::bytes::read2;
 ghost use mathlib.Core.Path.{_≡_};
@@ -83,31 +84,22 @@ fn add_bin(
     add(bars, p, bar_of(kind));
 }
 
-// n value bins from bins on, whose ranges are from ranges on.
-pub fn add_bins(
-    covers: &mut [u32],
-    singles: &mut [u32],
-    bars: &mut [u32],
-    t: &[u8],
-    points: usize,
-    np: usize,
-    bins: usize,
-    ranges: usize,
-    n: usize,
-)
-    requires { ⌜ (points ≤ 16777216) × (np ≤ 16) × (bins ≤ 16777216) × (ranges ≤ 16777216) × (n ≤ 512) × AllWide (now t) points np ⌝ }
-    requires { ⌜ all (countable np) (binsAt (now t) bins ranges n) ≡ true ⌝ }
+// The value bins of a table with that layout.
+pub fn add_bins(covers: &mut [u32], singles: &mut [u32], bars: &mut [u32], t: &[u8], l: Layout)
+    requires { ⌜ (l .points ≤ 16777216) × (l .«point_count» ≤ 16) × (l .bins ≤ 16777216) × (l .ranges ≤ 16777216) × (l .«bin_count» ≤ 512) × AllWide (now t) (l .points) (l .«point_count») ⌝ }
+    requires { ⌜ all (countable (l .«point_count»)) (binsAt (now t) (l .bins) (l .ranges) (l .«bin_count»)) ≡ true ⌝ }
     requires { ⌜ Entries 0 (now covers) × Entries 0 (now singles) × Entries 0 (now bars) ⌝ }
-    ensures { λ _. ⌜ now (covers .exit) ≡ added binPoint (binCovers (now (t .entry)) points) (binsAt (now (t .entry)) bins ranges n) (now (covers .entry)) ⌝ }
-    ensures { λ _. ⌜ now (singles .exit) ≡ added binPoint binSingles (binsAt (now (t .entry)) bins ranges n) (now (singles .entry)) ⌝ }
-    ensures { λ _. ⌜ now (bars .exit) ≡ added binPoint binBars (binsAt (now (t .entry)) bins ranges n) (now (bars .entry)) ⌝ }
-    ensures { λ _. ⌜ Entries (65535 * n) (now (covers .exit)) × Entries n (now (singles .exit)) × Entries n (now (bars .exit)) ⌝ }
+    ensures { λ _. ⌜ now (covers .exit) ≡ added binPoint (binCovers (now (t .entry)) (l .points)) (binsAt (now (t .entry)) (l .bins) (l .ranges) (l .«bin_count»)) (now (covers .entry)) ⌝ }
+    ensures { λ _. ⌜ now (singles .exit) ≡ added binPoint binSingles (binsAt (now (t .entry)) (l .bins) (l .ranges) (l .«bin_count»)) (now (singles .entry)) ⌝ }
+    ensures { λ _. ⌜ now (bars .exit) ≡ added binPoint binBars (binsAt (now (t .entry)) (l .bins) (l .ranges) (l .«bin_count»)) (now (bars .entry)) ⌝ }
+    ensures { λ _. ⌜ Entries (65535 * l .«bin_count») (now (covers .exit)) × Entries (l .«bin_count») (now (singles .exit)) × Entries (l .«bin_count») (now (bars .exit)) ⌝ }
 {
-    let mut b = bins;
-    let mut r = ranges;
+    let n = l.bin_count;
+    let mut b = l.bins;
+    let mut r = l.ranges;
     let mut i = 0;
     while i < n {
-        add_bin(covers, singles, bars, t, points, b, r);
+        add_bin(covers, singles, bars, t, l.points, b, r);
         let owned = read2(t, b + 6);
         b += 8;
         r += 17 * owned as usize;

@@ -63,21 +63,9 @@ pub fn count_points(covers: &mut [u32], singles: &mut [u32], t: &[u8], l: Layout
     ensures { λ _. ⌜ Counted (now (t .entry)) (now (covers .exit)) (now (singles .exit)) ⌝ }
 {
     let mut bars: [u32; 16] = [0; 16];
-    let points = l.points;
-    let np = l.point_count;
-    add_bins(
-        covers,
-        singles,
-        &mut bars,
-        t,
-        points,
-        np,
-        l.bins,
-        l.ranges,
-        l.bin_count,
-    );
+    add_bins(covers, singles, &mut bars, t, l);
     add_transitions(singles, &mut bars, t, l.transitions, l.transition_count);
-    add_autos(covers, &bars, t, points, np);
+    add_autos(covers, &bars, t, l.points, l.point_count);
 }
 
 // No point has more than 256 counters.

@@ -3,6 +3,7 @@ use arrays::put_same;
 use layout::Layout;
 use layout::layout_of;
 use values::flags::put_cover_at;
+use values::given::SampledValue;
 use values::points::has_auto;
 use values::points::lowest_at;
 use values::points::put_autos;
@@ -49,28 +50,26 @@ fn put_bin_kinds(
         return cur;
     }
     if kind == 0 {
-        return put_cover_at(kinds, cur, t, a, r, low, low, false);
+        let none = SampledValue {
+            low: low,
+            value: low,
+            live: false,
+        };
+        return put_cover_at(kinds, cur, t, a, r, none);
     }
     put_same(kinds, cur, 1, plain_kind(kind))
 }
 
-// The value bins of point p among n bins from a on, their ranges from r on.
-fn put_value_kinds(
-    kinds: &mut [u8],
-    cur: usize,
-    t: &[u8],
-    a: usize,
-    r: usize,
-    n: usize,
-    p: u8,
-    low: u64,
-) -> usize
-    requires { ⌜ (a < 1000000000) × (r < 1000000000) × (n ≤ 512) × (low < 2 ^ 60) × (fits (binsAt (now t) a r n) ≡ true) ⌝ }
-    requires { ⌜ cur + length (kindsIn low p (binsAt (now t) a r n)) ≤ length (now kinds) ⌝ }
-    ensures { λ e. ⌜ (e ≡ cur + length (kindsIn low p (binsAt (now (t .entry)) a r n))) × (now (kinds .exit) ≡ put cur (kindsIn low p (binsAt (now (t .entry)) a r n)) (now (kinds .entry))) ⌝ }
+// The value bins of point p, in a table with that layout.
+fn put_value_kinds(kinds: &mut [u8], cur: usize, t: &[u8], l: Layout, p: u8, low: u64) -> usize
+    requires { ⌜ (l .bins < 1000000000) × (l .ranges < 1000000000) × (l .«bin_count» ≤ 512) × (low < 2 ^ 60) × (fits (binsAt (now t) (l .bins) (l .ranges) (l .«bin_count»)) ≡ true) ⌝ }
+    requires { ⌜ cur + length (kindsIn low p (binsAt (now t) (l .bins) (l .ranges) (l .«bin_count»))) ≤ length (now kinds) ⌝ }
+    ensures { λ e. ⌜ (e ≡ cur + length (kindsIn low p (binsAt (now (t .entry)) (l .bins) (l .ranges) (l .«bin_count»)))) × (now (kinds .exit) ≡ put cur (kindsIn low p (binsAt (now (t .entry)) (l .bins) (l .ranges) (l .«bin_count»))) (now (kinds .entry))) ⌝ }
 {
+    let a = l.bins;
+    let n = l.bin_count;
     let mut c = cur;
-    let mut at = r;
+    let mut at = l.ranges;
     let mut i = 0;
     while i < n {
         let here = a + 8 * i;
@@ -127,7 +126,7 @@ fn put_kinds(kinds: &mut [u8], cur: usize, t: &[u8], l: Layout, p: u8) -> usize
     let k = l.transition_count;
     let low = lowest_at(t, point);
     let has = has_auto(t, a, n, b, k, p);
-    let c = put_value_kinds(kinds, cur, t, a, l.ranges, n, p, low);
+    let c = put_value_kinds(kinds, cur, t, l, p, low);
     let d = put_autos(kinds, c, t, point, low, has, false);
     put_transition_kinds(kinds, d, t, p, b, k)
 }

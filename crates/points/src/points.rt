@@ -1,4 +1,5 @@
 // The flags of the points' counters.
+use crate::readings::PointReading;
 use crate::transitions::put_transitions;
 use arrays::put_same;
 use layout::Layout;
@@ -17,30 +18,26 @@ ghost use Rattle.arrays.specs.Put.{put};
 ghost use Rattle.arrays.specs.Flat.{hitFlags, allPointCounters, readingCode, Readings};
 ghost use Rattle.points.specs.Hits.{valueHits, pointHits, Sampled};
 
-// Those of its value bins and auto bins. code: its reading.
+// Those of the value bins and the auto bins of the point that has the reading.
 fn put_values(
     flags: &mut [u8],
     cur: usize,
     t: &[u8],
     l: Layout,
     sample: &[u32],
-    p: u8,
-    code: u64,
+    own: PointReading,
 ) -> usize
-    requires { ⌜ (Sampled (now t) l (now sample)) × (p < pointTotal (tableOf (now t))) × (code ≡ readingCode (reading (tableOf (now t)) (now sample) p)) × (cur + 256 ≤ length (now flags)) ⌝ }
-    ensures { λ r. ⌜ (r ≡ cur + length (valueHits (tableOf (now (t .entry))) (now (sample .entry)) p)) × (now (flags .exit) ≡ put cur (valueHits (tableOf (now (t .entry))) (now (sample .entry)) p) (now (flags .entry))) ⌝ }
+    requires { ⌜ (Sampled (now t) l (now sample)) × (own .point < pointTotal (tableOf (now t))) × (own .code ≡ readingCode (reading (tableOf (now t)) (now sample) (own .point))) × (cur + 256 ≤ length (now flags)) ⌝ }
+    ensures { λ r. ⌜ (r ≡ cur + length (valueHits (tableOf (now (t .entry))) (now (sample .entry)) (own .point))) × (now (flags .exit) ≡ put cur (valueHits (tableOf (now (t .entry))) (now (sample .entry)) (own .point)) (now (flags .entry))) ⌝ }
 {
-    let point = l.points + 11 * (p as usize);
-    let a = l.bins;
-    let r = l.ranges;
-    let n = l.bin_count;
-    let b = l.transitions;
-    let k = l.transition_count;
+    let p = own.point;
+    let code = own.code;
     if code < 8589934592 {
-        return put_point(flags, cur, t, point, a, r, n, b, k, sample, p, code);
+        return put_point(flags, cur, t, l, sample, p, code);
     }
+    let point = l.points + 11 * (p as usize);
     let low = lowest_at(t, point);
-    let e = put_point(flags, cur, t, point, a, r, n, b, k, sample, p, low);
+    let e = put_point(flags, cur, t, l, sample, p, low);
     put_same(flags, cur, e - cur, 0)
 }
 
@@ -52,16 +49,13 @@ fn put_flags(
     l: Layout,
     sample: &[u32],
     lens: &[u32],
-    p: u8,
-    code: u64,
+    own: PointReading,
 ) -> usize
-    requires { ⌜ (Sampled (now t) l (now sample)) × (p < pointTotal (tableOf (now t))) × (code ≡ readingCode (reading (tableOf (now t)) (now sample) p)) × (cur + 256 ≤ length (now flags)) × (64 ≤ length (now lens)) ⌝ }
-    ensures { λ r. ⌜ (r ≡ cur + length (pointCounters (tableOf (now (t .entry))) p)) × (now (flags .exit) ≡ put cur (pointHits (tableOf (now (t .entry))) (now (sample .entry)) (take (length (tableOf (now (t .entry)) .transitionBins)) (now (lens .entry))) p) (now (flags .entry))) ⌝ }
+    requires { ⌜ (Sampled (now t) l (now sample)) × (own .point < pointTotal (tableOf (now t))) × (own .code ≡ readingCode (reading (tableOf (now t)) (now sample) (own .point))) × (cur + 256 ≤ length (now flags)) × (64 ≤ length (now lens)) ⌝ }
+    ensures { λ r. ⌜ (r ≡ cur + length (pointCounters (tableOf (now (t .entry))) (own .point))) × (now (flags .exit) ≡ put cur (pointHits (tableOf (now (t .entry))) (now (sample .entry)) (take (length (tableOf (now (t .entry)) .transitionBins)) (now (lens .entry))) (own .point)) (now (flags .entry))) ⌝ }
 {
-    let c = put_values(flags, cur, t, l, sample, p, code);
-    let b = l.transitions;
-    let n = l.transition_count;
-    put_transitions(flags, c, t, sample, lens, p, code == 8589934592, b, n)
+    let c = put_values(flags, cur, t, l, sample, own);
+    put_transitions(flags, c, t, l, sample, lens, own)
 }
 
 // Those of each point, by the places of the layout.
@@ -81,7 +75,8 @@ fn put_each(
     let mut p: usize = 0;
     while p < n {
         let code = readings[p];
-        c = put_flags(flags, c, t, l, sample, lens, p as u8, code);
+        let point = p as u8;
+        c = put_flags(flags, c, t, l, sample, lens, PointReading { point, code });
         p += 1;
     }
     c

@@ -16,6 +16,12 @@ ghost use Rattle.arrays.specs.Put.{put};
 ghost use Rattle.arrays.specs.Flat.{readingCodes};
 ghost use Rattle.points.specs.Readings.{codeAt, codesFrom, Read};
 
+// The number of a point, and the code of its reading.
+pub struct PointReading {
+    pub point: u8,
+    pub code: u64,
+}
+
 // The reading of point p, whose record stands at point.
 fn read_one(t: &[u8], point: usize, sample: &[u32], p: usize) -> u64
     requires { ⌜ (point < 1000000000) × (p < 65536) × Wide (now t) point × (valueWord (now sample) p < 2 ^ byte (now t) point) ⌝ }

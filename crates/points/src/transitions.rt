@@ -1,5 +1,7 @@
 // The flags of a point's transition bins. Each bin's matched lengths are the bits of a word.
+use crate::readings::PointReading;
 use arrays::put_one;
+use layout::Layout;
 use values::fields::guard_true;
 use words::bytes::byte;
 ghost use mathlib.Core.Path.{_≡_};
@@ -51,23 +53,28 @@ fn matched(kind: u8, lost: u32, x: u32) -> bool
     }
 }
 
-// The bin at at, where it is one of point p.
+// What keeps a point's transition bins from being hit: its reading is skipped; its ignore and illegal bins take these lengths away.
+struct Exclusion {
+    point: u8,
+    skip: bool,
+    lost: u32,
+}
+
+// The bin at at, where it is one of the point.
 fn put_transition(
     flags: &mut [u8],
     cur: usize,
     t: &[u8],
     sample: &[u32],
-    p: u8,
-    skip: bool,
-    lost: u32,
+    e: Exclusion,
     at: usize,
     x: u32,
 ) -> usize
-    requires { ⌜ (at < 2000000000) × (cur + length (flagsOf (now t) (now sample) p skip lost at x) ≤ length (now flags)) ⌝ }
-    ensures { λ r. ⌜ (r ≡ cur + length (flagsOf (now (t .entry)) (now (sample .entry)) p skip lost at x)) × (now (flags .exit) ≡ put cur (flagsOf (now (t .entry)) (now (sample .entry)) p skip lost at x) (now (flags .entry))) ⌝ }
+    requires { ⌜ (at < 2000000000) × (cur + length (flagsOf (now t) (now sample) (e .point) (e .skip) (e .lost) at x) ≤ length (now flags)) ⌝ }
+    ensures { λ r. ⌜ (r ≡ cur + length (flagsOf (now (t .entry)) (now (sample .entry)) (e .point) (e .skip) (e .lost) at x)) × (now (flags .exit) ≡ put cur (flagsOf (now (t .entry)) (now (sample .entry)) (e .point) (e .skip) (e .lost) at x) (now (flags .entry))) ⌝ }
 {
     let q = byte(t, at);
-    if q != p {
+    if q != e.point {
         return cur;
     }
     let kind = byte(t, at + 1);
@@ -76,51 +83,58 @@ fn put_transition(
     }
     let g = byte(t, at + 2);
     let y = guard_true(sample, g);
-    let h = matched(kind, lost, x);
-    put_one(flags, cur, y & !skip & h)
+    let h = matched(kind, e.lost, x);
+    put_one(flags, cur, y & !e.skip & h)
 }
 
-// The transition bins of point p among n bins from b on, given what is lost.
+// The transition bins of the point, in a table with that layout.
 fn put_bins(
     flags: &mut [u8],
     cur: usize,
     t: &[u8],
+    l: Layout,
     sample: &[u32],
     lens: &[u32],
-    p: u8,
-    skip: bool,
-    lost: u32,
-    b: usize,
-    n: usize,
+    e: Exclusion,
 ) -> usize
-    requires { ⌜ (b < 1000000000) × (n ≤ 64) × (n ≤ length (now lens)) × (cur + length (flagsFrom (now t) (now sample) (now lens) p skip lost b 0 n) ≤ length (now flags)) ⌝ }
-    ensures { λ r. ⌜ (r ≡ cur + length (flagsFrom (now (t .entry)) (now (sample .entry)) (now (lens .entry)) p skip lost b 0 n)) × (now (flags .exit) ≡ put cur (flagsFrom (now (t .entry)) (now (sample .entry)) (now (lens .entry)) p skip lost b 0 n) (now (flags .entry))) ⌝ }
+    requires { ⌜ (l .transitions < 1000000000) × (l .«transition_count» ≤ 64) × (l .«transition_count» ≤ length (now lens)) × (cur + length (flagsFrom (now t) (now sample) (now lens) (e .point) (e .skip) (e .lost) (l .transitions) 0 (l .«transition_count»)) ≤ length (now flags)) ⌝ }
+    ensures { λ r. ⌜ (r ≡ cur + length (flagsFrom (now (t .entry)) (now (sample .entry)) (now (lens .entry)) (e .point) (e .skip) (e .lost) (l .transitions) 0 (l .«transition_count»))) × (now (flags .exit) ≡ put cur (flagsFrom (now (t .entry)) (now (sample .entry)) (now (lens .entry)) (e .point) (e .skip) (e .lost) (l .transitions) 0 (l .«transition_count»)) (now (flags .entry))) ⌝ }
 {
+    let b = l.transitions;
+    let n = l.transition_count;
     let mut c = cur;
     let mut i = 0;
     while i < n {
         let x = lens[i];
-        c = put_transition(flags, c, t, sample, p, skip, lost, b + 4 * i, x);
+        c = put_transition(flags, c, t, sample, e, b + 4 * i, x);
         i += 1;
     }
     c
 }
 
-// The transition bins of point p among n bins from b on. skip: the point's reading is skipped.
+// The transition bins of the point that has the reading, in a table with that layout.
 pub fn put_transitions(
     flags: &mut [u8],
     cur: usize,
     t: &[u8],
+    l: Layout,
     sample: &[u32],
     lens: &[u32],
-    p: u8,
-    skip: bool,
-    b: usize,
-    n: usize,
+    own: PointReading,
 ) -> usize
-    requires { ⌜ (b < 1000000000) × (n ≤ 64) × (n ≤ length (now lens)) × (cur + length (transitionFlags (now t) (now sample) (now lens) p skip b n) ≤ length (now flags)) ⌝ }
-    ensures { λ r. ⌜ (r ≡ cur + length (transitionFlags (now (t .entry)) (now (sample .entry)) (now (lens .entry)) p skip b n)) × (now (flags .exit) ≡ put cur (transitionFlags (now (t .entry)) (now (sample .entry)) (now (lens .entry)) p skip b n) (now (flags .entry))) ⌝ }
+    requires { ⌜ (l .transitions < 1000000000) × (l .«transition_count» ≤ 64) × (l .«transition_count» ≤ length (now lens)) × (cur + length (transitionFlags (now t) (now sample) (now lens) (own .point) (eqb (own .code) 8589934592) (l .transitions) (l .«transition_count»)) ≤ length (now flags)) ⌝ }
+    ensures { λ r. ⌜ (r ≡ cur + length (transitionFlags (now (t .entry)) (now (sample .entry)) (now (lens .entry)) (own .point) (eqb (own .code) 8589934592) (l .transitions) (l .«transition_count»))) × (now (flags .exit) ≡ put cur (transitionFlags (now (t .entry)) (now (sample .entry)) (now (lens .entry)) (own .point) (eqb (own .code) 8589934592) (l .transitions) (l .«transition_count»)) (now (flags .entry))) ⌝ }
 {
-    let lost = lost_lengths(t, p, b, n, lens);
-    put_bins(flags, cur, t, sample, lens, p, skip, lost, b, n)
+    let point = own.point;
+    let skip = own.code == 8589934592;
+    let lost = lost_lengths(t, point, l.transitions, l.transition_count, lens);
+    put_bins(
+        flags,
+        cur,
+        t,
+        l,
+        sample,
+        lens,
+        Exclusion { point, skip, lost },
+    )
 }

@@ -1,6 +1,8 @@
 // The next run of every sequence, written over its words in the register.
+use crate::steps::Place;
 use crate::steps::ranges_past;
 use crate::steps::steps_at;
+use layout::Layout;
 use layout::layout_of;
 use sequences::advance;
 use sequences::run_length;
@@ -18,13 +20,6 @@ ghost use Rattle.model.specs.Register.{sequences, runTotal, nextRuns};
 ghost use Rattle.arrays.specs.Put.{put};
 ghost use Rattle.arrays.specs.Flat.{Readings};
 ghost use Rattle.runs.specs.Runs.{readingFrom, binRuns, binWords, allRuns, sequenceFits, binFits, Ends};
-
-// Where the words of a bin's sequences end in the register, and their steps and step ranges in the table.
-struct Place {
-    words: usize,
-    steps: usize,
-    ranges: usize,
-}
 
 // The next run of a sequence of n steps, whose records stand from p on, their ranges from r on. Its words stand from a on. Answers where they end.
 fn advance_sequence(
@@ -47,25 +42,16 @@ fn advance_sequence(
     advance(register, a, steps)
 }
 
-// The next runs of n sequences of a bin, whose records stand from q on.
-fn advance_bin(
-    register: &mut [u32],
-    a: usize,
-    t: &[u8],
-    q: usize,
-    p: usize,
-    r: usize,
-    n: usize,
-    code: u64,
-) -> Place
-    requires { ⌜ (q < 1000000000) × (p < 1000000000) × (r < 1400000000) × (n < 256) ⌝ }
-    requires { ⌜ (all sequenceFits (sequencesAt (now t) q p r n) ≡ true) × (a + sumOf runLength (sequencesAt (now t) q p r n) ≤ length (now register)) ⌝ }
-    ensures { λ e. ⌜ Ends (now (t .entry)) q p r a n (e .words) (e .steps) (e .ranges) ⌝ }
-    ensures { λ _. ⌜ now (register .exit) ≡ put a (binRuns (readingFrom code) (sequencesAt (now (t .entry)) q p r n) (drop a (now (register .entry)))) (now (register .entry)) ⌝ }
+// The next runs of n sequences of a bin, whose records stand from q on. Answers where the sequences after them begin.
+fn advance_bin(register: &mut [u32], t: &[u8], q: usize, place: Place, n: usize, code: u64) -> Place
+    requires { ⌜ (q < 1000000000) × (place .steps < 1000000000) × (place .ranges < 1400000000) × (n < 256) ⌝ }
+    requires { ⌜ (all sequenceFits (sequencesAt (now t) q (place .steps) (place .ranges) n) ≡ true) × (place .words + sumOf runLength (sequencesAt (now t) q (place .steps) (place .ranges) n) ≤ length (now register)) ⌝ }
+    ensures { λ e. ⌜ Ends (now (t .entry)) q (place .steps) (place .ranges) (place .words) n (e .words) (e .steps) (e .ranges) ⌝ }
+    ensures { λ _. ⌜ now (register .exit) ≡ put (place .words) (binRuns (readingFrom code) (sequencesAt (now (t .entry)) q (place .steps) (place .ranges) n) (drop (place .words) (now (register .entry)))) (now (register .entry)) ⌝ }
 {
-    let mut words = a;
-    let mut steps = p;
-    let mut ranges = r;
+    let mut words = place.words;
+    let mut steps = place.steps;
+    let mut ranges = place.ranges;
     let mut i = 0;
     while i < n {
         let k = byte(t, q + i) as usize;
@@ -81,44 +67,26 @@ fn advance_bin(
     }
 }
 
-// The next runs of n transition bins, whose records stand from b on.
-fn advance_bins(
-    register: &mut [u32],
-    at: usize,
-    t: &[u8],
-    readings: &[u64],
-    b: usize,
-    q: usize,
-    p: usize,
-    r: usize,
-    n: usize,
-)
-    requires { ⌜ (16 ≤ length (now readings)) × (b ≤ 16777216) × (q ≤ 16777216) × (p ≤ 16777216) × (r ≤ 16777216) × (n ≤ 64) ⌝ }
-    requires { ⌜ (all binFits (transitionsAt (now t) b q p r n) ≡ true) × (at + sumOf binWords (transitionsAt (now t) b q p r n) ≤ length (now register)) ⌝ }
-    ensures { λ _. ⌜ now (register .exit) ≡ put at (allRuns (now (readings .entry)) (transitionsAt (now (t .entry)) b q p r n) (drop at (now (register .entry)))) (now (register .entry)) ⌝ }
+// The next runs of the transition bins of a table with that layout. The run words stand in the register from at on.
+fn advance_bins(register: &mut [u32], at: usize, t: &[u8], readings: &[u64], l: Layout)
+    requires { ⌜ (16 ≤ length (now readings)) × (l .transitions ≤ 16777216) × (l .sequences ≤ 16777216) × (l .steps ≤ 16777216) × (l .«step_ranges» ≤ 16777216) × (l .«transition_count» ≤ 64) ⌝ }
+    requires { ⌜ (all binFits (transitionsAt (now t) (l .transitions) (l .sequences) (l .steps) (l .«step_ranges») (l .«transition_count»)) ≡ true) × (at + sumOf binWords (transitionsAt (now t) (l .transitions) (l .sequences) (l .steps) (l .«step_ranges») (l .«transition_count»)) ≤ length (now register)) ⌝ }
+    ensures { λ _. ⌜ now (register .exit) ≡ put at (allRuns (now (readings .entry)) (transitionsAt (now (t .entry)) (l .transitions) (l .sequences) (l .steps) (l .«step_ranges») (l .«transition_count»)) (drop at (now (register .entry)))) (now (register .entry)) ⌝ }
 {
-    let mut words = at;
-    let mut sequence = q;
-    let mut steps = p;
-    let mut ranges = r;
+    let b = l.transitions;
+    let n = l.transition_count;
+    let mut sequence = l.sequences;
+    let mut place = Place {
+        words: at,
+        steps: l.steps,
+        ranges: l.step_ranges,
+    };
     let mut i = 0;
     while i < n {
         let here = b + 4 * i;
         let point = byte(t, here) as usize;
         let k = byte(t, here + 3) as usize;
-        let e = advance_bin(
-            register,
-            words,
-            t,
-            sequence,
-            steps,
-            ranges,
-            k,
-            readings[point],
-        );
-        words = e.words;
-        steps = e.steps;
-        ranges = e.ranges;
+        place = advance_bin(register, t, sequence, place, k, readings[point]);
         sequence += k;
         i += 1;
     }
@@ -130,15 +98,5 @@ pub fn advance_runs(register: &mut [u32], at: usize, t: &[u8], readings: &[u64])
     ensures { λ _. ⌜ ((w : List ℕ) → Readings (tableOf (now (t .entry))) w (now (readings .entry)) → now (register .exit) ≡ put at (nextRuns (tableOf (now (t .entry))) w (sequences (tableOf (now (t .entry)))) (take (runTotal (tableOf (now (t .entry)))) (drop at (now (register .entry))))) (now (register .entry))) ⌝ }
 {
     let l = layout_of(t);
-    advance_bins(
-        register,
-        at,
-        t,
-        readings,
-        l.transitions,
-        l.sequences,
-        l.steps,
-        l.step_ranges,
-        l.transition_count,
-    );
+    advance_bins(register, at, t, readings, l);
 }

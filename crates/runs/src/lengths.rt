@@ -1,6 +1,8 @@
 // The lengths at which each transition bin matches, by its run words.
+use crate::steps::Place;
 use crate::steps::ranges_past;
 use crate::steps::steps_at;
+use layout::Layout;
 use layout::layout_of;
 use sequences::lengths_at;
 use sequences::run_length;
@@ -17,34 +19,23 @@ ghost use Rattle.model.specs.Register.{runTotal, binLengths, allLengths};
 ghost use Rattle.arrays.specs.Put.{put};
 ghost use Rattle.runs.specs.Runs.{binWords, sequenceFits, binFits, Ends};
 
-// The lengths at which some sequence of a bin matches; where its words end in the register, and its steps and step ranges in the table.
+// The lengths at which some sequence of a bin matches, and where the sequences after them begin.
 struct Matched {
     lengths: u32,
-    words: usize,
-    steps: usize,
-    ranges: usize,
+    end: Place,
 }
 
-// n sequences of a bin, whose records stand from q on, their steps from p on, the step ranges from r on. Only the steps' numbers count here: the
-// code is that of an unknown reading.
-fn bin_lengths(
-    t: &[u8],
-    register: &[u32],
-    a: usize,
-    q: usize,
-    p: usize,
-    r: usize,
-    n: usize,
-) -> Matched
-    requires { ⌜ (q < 1000000000) × (p < 1000000000) × (r < 1400000000) × (n < 256) ⌝ }
-    requires { ⌜ (all sequenceFits (sequencesAt (now t) q p r n) ≡ true) × (a + sumOf runLength (sequencesAt (now t) q p r n) ≤ length (now register)) ⌝ }
-    ensures { λ e. ⌜ Ends (now (t .entry)) q p r a n (e .words) (e .steps) (e .ranges) ⌝ }
-    ensures { λ e. ⌜ e .lengths ≡ binLengths (sequencesAt (now (t .entry)) q p r n) (drop a (now (register .entry))) ⌝ }
+// n sequences of a bin, whose records stand from q on. Only the steps' numbers count here: the code is that of an unknown reading.
+fn bin_lengths(t: &[u8], register: &[u32], q: usize, place: Place, n: usize) -> Matched
+    requires { ⌜ (q < 1000000000) × (place .steps < 1000000000) × (place .ranges < 1400000000) × (n < 256) ⌝ }
+    requires { ⌜ (all sequenceFits (sequencesAt (now t) q (place .steps) (place .ranges) n) ≡ true) × (place .words + sumOf runLength (sequencesAt (now t) q (place .steps) (place .ranges) n) ≤ length (now register)) ⌝ }
+    ensures { λ e. ⌜ Ends (now (t .entry)) q (place .steps) (place .ranges) (place .words) n (e .end .words) (e .end .steps) (e .end .ranges) ⌝ }
+    ensures { λ e. ⌜ e .lengths ≡ binLengths (sequencesAt (now (t .entry)) q (place .steps) (place .ranges) n) (drop (place .words) (now (register .entry))) ⌝ }
 {
     let mut out: u32 = 0;
-    let mut words = a;
-    let mut steps = p;
-    let mut ranges = r;
+    let mut words = place.words;
+    let mut steps = place.steps;
+    let mut ranges = place.ranges;
     let mut i = 0;
     while i < n {
         let k = byte(t, q + i) as usize;
@@ -55,42 +46,37 @@ fn bin_lengths(
         steps += 3 * k;
         i += 1;
     }
-    Matched {
-        lengths: out,
+    let end = Place {
         words: words,
         steps: steps,
         ranges: ranges,
+    };
+    Matched {
+        lengths: out,
+        end: end,
     }
 }
 
-// The same of n transition bins, whose records stand from b on: one word for each.
-fn bins_lengths(
-    lens: &mut [u32],
-    t: &[u8],
-    register: &[u32],
-    at: usize,
-    b: usize,
-    q: usize,
-    p: usize,
-    r: usize,
-    n: usize,
-)
-    requires { ⌜ (n ≤ length (now lens)) × (b ≤ 16777216) × (q ≤ 16777216) × (p ≤ 16777216) × (r ≤ 16777216) × (n ≤ 64) ⌝ }
-    requires { ⌜ (all binFits (transitionsAt (now t) b q p r n) ≡ true) × (at + sumOf binWords (transitionsAt (now t) b q p r n) ≤ length (now register)) ⌝ }
-    ensures { λ _. ⌜ now (lens .exit) ≡ put 0 (allLengths (transitionsAt (now (t .entry)) b q p r n) (drop at (now (register .entry)))) (now (lens .entry)) ⌝ }
+// The same of the transition bins of a table with that layout: one word for each.
+fn bins_lengths(lens: &mut [u32], t: &[u8], register: &[u32], at: usize, l: Layout)
+    requires { ⌜ (l .«transition_count» ≤ length (now lens)) × (l .transitions ≤ 16777216) × (l .sequences ≤ 16777216) × (l .steps ≤ 16777216) × (l .«step_ranges» ≤ 16777216) × (l .«transition_count» ≤ 64) ⌝ }
+    requires { ⌜ (all binFits (transitionsAt (now t) (l .transitions) (l .sequences) (l .steps) (l .«step_ranges») (l .«transition_count»)) ≡ true) × (at + sumOf binWords (transitionsAt (now t) (l .transitions) (l .sequences) (l .steps) (l .«step_ranges») (l .«transition_count»)) ≤ length (now register)) ⌝ }
+    ensures { λ _. ⌜ now (lens .exit) ≡ put 0 (allLengths (transitionsAt (now (t .entry)) (l .transitions) (l .sequences) (l .steps) (l .«step_ranges») (l .«transition_count»)) (drop at (now (register .entry)))) (now (lens .entry)) ⌝ }
 {
-    let mut words = at;
-    let mut sequence = q;
-    let mut steps = p;
-    let mut ranges = r;
+    let b = l.transitions;
+    let n = l.transition_count;
+    let mut sequence = l.sequences;
+    let mut place = Place {
+        words: at,
+        steps: l.steps,
+        ranges: l.step_ranges,
+    };
     let mut i = 0;
     while i < n {
         let k = byte(t, b + 4 * i + 3) as usize;
-        let e = bin_lengths(t, register, words, sequence, steps, ranges, k);
+        let e = bin_lengths(t, register, sequence, place, k);
         lens[i] = e.lengths;
-        words = e.words;
-        steps = e.steps;
-        ranges = e.ranges;
+        place = e.end;
         sequence += k;
         i += 1;
     }
@@ -102,15 +88,5 @@ pub fn put_lengths(lens: &mut [u32], t: &[u8], register: &[u32], at: usize)
     ensures { λ _. ⌜ now (lens .exit) ≡ put 0 (allLengths (tableOf (now (t .entry)) .transitionBins) (take (runTotal (tableOf (now (t .entry)))) (drop at (now (register .entry))))) (now (lens .entry)) ⌝ }
 {
     let l = layout_of(t);
-    bins_lengths(
-        lens,
-        t,
-        register,
-        at,
-        l.transitions,
-        l.sequences,
-        l.steps,
-        l.step_ranges,
-        l.transition_count,
-    );
+    bins_lengths(lens, t, register, at, l);
 }

@@ -10,6 +10,13 @@ ghost use Rattle.model.specs.Raw.{rangesAt, rangeTotal, stepsAt};
 ghost use Rattle.sequences.specs.Described.{Describes};
 ghost use Rattle.runs.specs.Runs.{readingFrom};
 
+// Where the words of some sequences begin in the register, and their steps and step ranges in the table.
+pub struct Place {
+    pub words: usize,
+    pub steps: usize,
+    pub ranges: usize,
+}
+
 // The reading of that code lies in one of n ranges from r on.
 fn in_step(t: &[u8], r: usize, n: usize, code: u64) -> bool
     requires { ⌜ (r < 2000000000) × (n < 65536) ⌝ }

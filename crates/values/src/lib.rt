@@ -3,6 +3,7 @@ pub mod autos;
 pub mod bins;
 pub mod fields;
 pub mod flags;
+pub mod given;
 pub mod marks;
 pub mod points;
 pub mod rising;

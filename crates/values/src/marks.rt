@@ -1,5 +1,7 @@
 // Flags of a cover bin that stands for several bins.
 use crate::fields::field;
+use crate::given::RangeList;
+use crate::given::SampledValue;
 use arrays::put_same;
 use ranges::sizes::size_at;
 use ranges::sizes::sizes_at;
@@ -22,6 +24,12 @@ fn in_span(t: &[u8], at: usize, v: u64) -> bool
     let lo = field(t, at + 1);
     let hi = field(t, at + 9);
     (kind == 0) & (lo <= v) & (v <= hi)
+}
+
+// How values are distributed: so many to each bin, the rest to the last one.
+struct Distribution {
+    each: u64,
+    last: usize,
 }
 
 // The bin that gets the value at a place of the listed order.
@@ -48,33 +56,34 @@ fn mark_one(
     t: &[u8],
     at: usize,
     v: u64,
-    each: u64,
-    last: usize,
+    bins: Distribution,
     before: u64,
     flags: &mut [u8],
     cur: usize,
 )
-    requires { ⌜ (at < 4294967200) × (v < 2 ^ 60) × (before < 2 ^ 60) × (1 ≤ each) × (last < 65536) × (cur + last < length (now flags)) ⌝ }
-    ensures { λ _. ⌜ now (flags .exit) ≡ markOne cur each last v before (rangeRecord (now (t .entry)) at) (now (flags .entry)) ⌝ }
+    requires { ⌜ (at < 4294967200) × (v < 2 ^ 60) × (before < 2 ^ 60) × (1 ≤ bins .each) × (bins .last < 65536) × (cur + bins .last < length (now flags)) ⌝ }
+    ensures { λ _. ⌜ now (flags .exit) ≡ markOne cur (bins .each) (bins .last) v before (rangeRecord (now (t .entry)) at) (now (flags .entry)) ⌝ }
 {
     if !in_span(t, at, v) {
         return;
     }
-    let k = bin_of(t, at, v, each, last, before);
+    let k = bin_of(t, at, v, bins.each, bins.last, before);
     flags[cur + k] = 1;
 }
 
 // A 1 at each bin that gets the value.
-fn mark(t: &[u8], at: usize, n: usize, v: u64, each: u64, last: usize, flags: &mut [u8], cur: usize)
-    requires { ⌜ (at < 2000000000) × (n < 65536) × (sizes (rangesAt (now t) at n) < 2 ^ 60) ⌝ }
-    requires { ⌜ (v < 2 ^ 60) × (1 ≤ each) × (last < 65536) × (cur + last < length (now flags)) ⌝ }
-    ensures { λ _. ⌜ now (flags .exit) ≡ setAll cur (binsOf each last v 0 (rangesAt (now (t .entry)) at n)) (now (flags .entry)) ⌝ }
+fn mark(t: &[u8], ranges: RangeList, v: u64, bins: Distribution, flags: &mut [u8], cur: usize)
+    requires { ⌜ (ranges .at < 2000000000) × (ranges .count < 65536) × (sizes (rangesAt (now t) (ranges .at) (ranges .count)) < 2 ^ 60) ⌝ }
+    requires { ⌜ (v < 2 ^ 60) × (1 ≤ bins .each) × (bins .last < 65536) × (cur + bins .last < length (now flags)) ⌝ }
+    ensures { λ _. ⌜ now (flags .exit) ≡ setAll cur (binsOf (bins .each) (bins .last) v 0 (rangesAt (now (t .entry)) (ranges .at) (ranges .count))) (now (flags .entry)) ⌝ }
 {
+    let at = ranges.at;
+    let n = ranges.count;
     let mut before: u64 = 0;
     let mut i = 0;
     while i < n {
         let here = at + 17 * i;
-        mark_one(t, here, v, each, last, before, flags, cur);
+        mark_one(t, here, v, bins, before, flags, cur);
         before += size_at(t, here);
         i += 1;
     }
@@ -100,22 +109,21 @@ fn share(t: &[u8], at: usize, n: usize, number: usize) -> u64
 // Form 2: number flags from the cursor on.
 pub fn put_fixed(
     t: &[u8],
-    at: usize,
-    n: usize,
+    ranges: RangeList,
     number: usize,
-    v: u64,
-    live: bool,
+    s: SampledValue,
     flags: &mut [u8],
     cur: usize,
 ) -> usize
-    requires { ⌜ (at < 2000000000) × (n < 65536) × (sizes (rangesAt (now t) at n) < 2 ^ 60) ⌝ }
-    requires { ⌜ (v < 2 ^ 60) × (1 ≤ number) × (number < 65536) × (cur + number ≤ length (now flags)) ⌝ }
-    ensures { λ r. ⌜ (r ≡ cur + number) × (now (flags .exit) ≡ put cur (fixedFlags live v number (rangesAt (now (t .entry)) at n)) (now (flags .entry))) ⌝ }
+    requires { ⌜ (ranges .at < 2000000000) × (ranges .count < 65536) × (sizes (rangesAt (now t) (ranges .at) (ranges .count)) < 2 ^ 60) ⌝ }
+    requires { ⌜ (s .value < 2 ^ 60) × (1 ≤ number) × (number < 65536) × (cur + number ≤ length (now flags)) ⌝ }
+    ensures { λ r. ⌜ (r ≡ cur + number) × (now (flags .exit) ≡ put cur (fixedFlags (s .live) (s .value) number (rangesAt (now (t .entry)) (ranges .at) (ranges .count))) (now (flags .entry))) ⌝ }
 {
     let end = put_same(flags, cur, number, 0);
-    if live {
-        let each = share(t, at, n, number);
-        mark(t, at, n, v, each, number - 1, flags, cur);
+    if s.live {
+        let each = share(t, ranges.at, ranges.count, number);
+        let last = number - 1;
+        mark(t, ranges, s.value, Distribution { each, last }, flags, cur);
     }
     end
 }

@@ -2,6 +2,8 @@
 use crate::autos::put_auto;
 use crate::bins::listed;
 use crate::flags::put_bins;
+use crate::given::KnownReading;
+use layout::Layout;
 use ranges::taken::excluded;
 use words::bytes::byte;
 use words::bytes::read2;
@@ -82,30 +84,33 @@ pub fn auto_count(all: u64, most: u16) -> usize
     }
 }
 
-// The flags of point p, whose record stands at point, for the value v: n value bins from a on, their ranges from r on, k transition bins from b on.
+// The flags of point p for the value v, in a table with that layout.
 pub fn put_point(
     flags: &mut [u8],
     cur: usize,
     t: &[u8],
-    point: usize,
-    a: usize,
-    r: usize,
-    n: usize,
-    b: usize,
-    k: usize,
+    l: Layout,
     sample: &[u32],
     p: u8,
     v: u64,
 ) -> usize
-    requires { ⌜ (Near point a r n b k) × Wide (now t) point × (1 ≤ u16 (now t) (point + 9)) × (fits (binsAt (now t) a r n) ≡ true) ⌝ }
-    requires { ⌜ (v < 2 ^ 60) × (lowest (pointRecord (now t) point) ≤ v) × (v ≤ highest (pointRecord (now t) point)) × (cur + length (pointFlags (now t) point a r n b k (now sample) p v) ≤ length (now flags)) ⌝ }
-    ensures { λ e. ⌜ (e ≡ cur + length (pointFlags (now (t .entry)) point a r n b k (now (sample .entry)) p v)) × (now (flags .exit) ≡ put cur (pointFlags (now (t .entry)) point a r n b k (now (sample .entry)) p v) (now (flags .entry))) ⌝ }
+    requires { ⌜ (Near (l .points + 11 * p) (l .bins) (l .ranges) (l .«bin_count») (l .transitions) (l .«transition_count»)) × Wide (now t) (l .points + 11 * p) × (1 ≤ u16 (now t) (l .points + 11 * p + 9)) × (fits (binsAt (now t) (l .bins) (l .ranges) (l .«bin_count»)) ≡ true) ⌝ }
+    requires { ⌜ (v < 2 ^ 60) × (lowest (pointRecord (now t) (l .points + 11 * p)) ≤ v) × (v ≤ highest (pointRecord (now t) (l .points + 11 * p))) × (cur + length (pointFlags (now t) (l .points + 11 * p) (l .bins) (l .ranges) (l .«bin_count») (l .transitions) (l .«transition_count») (now sample) p v) ≤ length (now flags)) ⌝ }
+    ensures { λ e. ⌜ (e ≡ cur + length (pointFlags (now (t .entry)) (l .points + 11 * p) (l .bins) (l .ranges) (l .«bin_count») (l .transitions) (l .«transition_count») (now (sample .entry)) p v)) × (now (flags .exit) ≡ put cur (pointFlags (now (t .entry)) (l .points + 11 * p) (l .bins) (l .ranges) (l .«bin_count») (l .transitions) (l .«transition_count») (now (sample .entry)) p v) (now (flags .entry))) ⌝ }
 {
-    let x = excluded(t, a, r, n, p, v);
-    let l = listed(t, a, r, n, p, v);
-    let has = has_auto(t, a, n, b, k, p);
+    let point = l.points + 11 * (p as usize);
+    let x = excluded(t, l.bins, l.ranges, l.bin_count, p, v);
+    let y = listed(t, l.bins, l.ranges, l.bin_count, p, v);
+    let has = has_auto(t, l.bins, l.bin_count, l.transitions, l.transition_count, p);
     let low = lowest_at(t, point);
-    let c = put_bins(flags, cur, t, a, r, n, p, sample, low, v, x, l);
+    let h = KnownReading {
+        point: p,
+        low: low,
+        value: v,
+        excluded: x,
+        listed: y,
+    };
+    let c = put_bins(flags, cur, t, l, sample, h);
     put_autos(flags, c, t, point, v, has, !x)
 }
 

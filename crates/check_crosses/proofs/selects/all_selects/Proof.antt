@@ -10,10 +10,10 @@ use Rattle.check_crosses.proofs.selects.all_selects.Statement.{statemen
 use Rattle.check_crosses.proofs.selects.all_selects.Tie as tie
 
 abbrev Inv-loop : tie.InvT-loop
-Inv-loop t points np bins nb c b n start at₀ cross₀ bin₀ i₀ at cross bin i = (i ≤ n) × (at ≤ length t) × (cross ≡ c + 13 * i) × (bin ≤ b + 765 * i) × (verdictOf (each (readSelects t (pointsAt t points np) (rows (binHead t) 8 bins nb)) (crossHeadsAt t c b n) start) ≡ verdictOf (each (readSelects t (pointsAt t points np) (rows (binHead t) 8 bins nb)) (crossHeadsAt t cross bin (n - i)) at))
+Inv-loop t points bins c b n start at₀ cross₀ bin₀ i₀ at cross bin i = (i ≤ n) × (at ≤ length t) × (cross ≡ c + 13 * i) × (bin ≤ b + 765 * i) × (verdictOf (each (readSelects t (pointsAt t (points .at) (points .count)) (rows (binHead t) 8 (bins .at) (bins .count))) (crossHeadsAt t c b n) start) ≡ verdictOf (each (readSelects t (pointsAt t (points .at) (points .count)) (rows (binHead t) 8 (bins .at) (bins .count))) (crossHeadsAt t cross bin (n - i)) at))
 
 abbrev μ-loop : tie.MeasureT-loop
-μ-loop t points np bins nb c b n start at₀ cross₀ bin₀ i₀ at cross bin i = n - i
+μ-loop t points bins c b n start at₀ cross₀ bin₀ i₀ at cross bin i = n - i
 
 loop-holds : tie.Need-loop-holds Inv-loop μ-loop
 loop-holds c = search (needs, heads-start)

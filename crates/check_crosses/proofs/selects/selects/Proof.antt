@@ -10,10 +10,10 @@ use Rattle.check_crosses.proofs.selects.selects.Statement.{statement}
 use Rattle.check_crosses.proofs.selects.selects.Tie as tie
 
 abbrev Inv-loop : tie.InvT-loop
-Inv-loop t points np bins nb c b n start at₀ bin₀ i₀ at bin i = (i ≤ n) × (at ≤ length t) × (bin ≡ b + 3 * i) × (verdictOf (each (readSelect t (pointsAt t points np) (rows (binHead t) 8 bins nb)) (crossBinHeadsAt t c b n) start) ≡ verdictOf (each (readSelect t (pointsAt t points np) (rows (binHead t) 8 bins nb)) (crossBinHeadsAt t c bin (n - i)) at))
+Inv-loop t points bins c b n start at₀ bin₀ i₀ at bin i = (i ≤ n) × (at ≤ length t) × (bin ≡ b + 3 * i) × (verdictOf (each (readSelect t (pointsAt t (points .at) (points .count)) (rows (binHead t) 8 (bins .at) (bins .count))) (crossBinHeadsAt t c b n) start) ≡ verdictOf (each (readSelect t (pointsAt t (points .at) (points .count)) (rows (binHead t) 8 (bins .at) (bins .count))) (crossBinHeadsAt t c bin (n - i)) at))
 
 abbrev μ-loop : tie.MeasureT-loop
-μ-loop t points np bins nb c b n start at₀ bin₀ i₀ at bin i = n - i
+μ-loop t points bins c b n start at₀ bin₀ i₀ at bin i = n - i
 
 loop-holds : tie.Need-loop-holds Inv-loop μ-loop
 loop-holds c = search eachs

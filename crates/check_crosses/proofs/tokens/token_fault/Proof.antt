@@ -32,14 +32,14 @@ mul-token-rules : tie.Need-mul-token-rules
 mul-token-rules c = omega (arith, point-below _ _ _ _ _ (c .before .before .before .before .before .before .pre .1 .1) (c .before .point-of .ensures))
 
 add-token-rules : tie.Need-add-token-rules
-add-token-rules c = omega (arith, point-below _ _ _ _ _ (c .before .before .before .before .before .before .pre .1 .1) (c .before .point-of .ensures))
+add-token-rules c = omega (arith, point-below _ _ _ _ _ (c .before .before .before .before .before .before .before .pre .1 .1) (c .before .before .point-of .ensures))
 
 token-rules-requires : tie.Need-token-rules-requires
-token-rules-requires c κs = let h = point-below _ _ _ _ _ (c .before .before .before .before .before .before .pre .1 .1) (c .before .point-of .ensures) in (omega arith, search needs, c .before .before .before .before .before .before .pre .1 .0 _ h)
+token-rules-requires c κs = let h = point-below _ _ _ _ _ (c .before .before .before .before .before .before .before .pre .1 .1) (c .before .before .point-of .ensures) in (omega arith, search needs, c .before .before .before .before .before .before .before .pre .1 .0 _ h)
 
 returns-2 : tie.Need-returns-2
 unfolding readToken
-returns-2 c = record-whole _ _ _ _ _ _ (search needs) (rw (token-tests _ _ _ _ _ _ _ (c .before .before .before .before .before .before .before .pre .1 .1), c .token-rules .ensures, c .before .named .ensures, token-named, c .before .before .point-of .ensures, c .before .before .before .token-at .ensures, c .before .before .before .before .byte .ensures))
+returns-2 c = record-whole _ _ _ _ _ _ (search needs) (rw (token-tests _ _ _ _ _ _ _ (c .before .before .before .before .before .before .before .before .pre .1 .1), c .token-rules .ensures, c .before .before .named .ensures, token-named, c .before .before .before .point-of .ensures, c .before .before .before .before .token-at .ensures, c .before .before .before .before .before .byte .ensures))
 
 pub token-fault-spec : {M : Type 1} → statement M
 token-fault-spec =

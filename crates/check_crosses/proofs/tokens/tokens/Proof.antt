@@ -9,10 +9,10 @@ use Rattle.check_crosses.proofs.tokens.tokens.Statement.{statement}
 use Rattle.check_crosses.proofs.tokens.tokens.Tie as tie
 
 abbrev Inv-loop : tie.InvT-loop
-Inv-loop t points np bins nb c n start at₀ i₀ at i = (i ≤ n) × (at ≤ length t) × (verdictOf (times n (readToken t (pointsAt t points np) (rows (binHead t) 8 bins nb) (crossPoints t c)) start) ≡ verdictOf (times (n - i) (readToken t (pointsAt t points np) (rows (binHead t) 8 bins nb) (crossPoints t c)) at))
+Inv-loop t points bins c n start at₀ i₀ at i = (i ≤ n) × (at ≤ length t) × (verdictOf (times n (readToken t (pointsAt t (points .at) (points .count)) (rows (binHead t) 8 (bins .at) (bins .count)) (crossPoints t c)) start) ≡ verdictOf (times (n - i) (readToken t (pointsAt t (points .at) (points .count)) (rows (binHead t) 8 (bins .at) (bins .count)) (crossPoints t c)) at))
 
 abbrev μ-loop : tie.MeasureT-loop
-μ-loop t points np bins nb c n start at₀ i₀ at i = n - i
+μ-loop t points bins c n start at₀ i₀ at i = n - i
 
 loop-holds : tie.Need-loop-holds Inv-loop μ-loop
 loop-holds c = search timess

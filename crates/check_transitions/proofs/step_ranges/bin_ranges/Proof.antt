@@ -19,7 +19,7 @@ add-ranges-of : tie.Need-add-ranges-of
 add-ranges-of c = search needs
 
 ranges-of-requires : tie.Need-ranges-of-requires
-ranges-of-requires c κs = (search needs, search needs, search needs, wide-of _ _ _ _ (c .before .before .before .pre .1 .1) (search needs))
+ranges-of-requires c κs = (search needs, search needs, search needs, wide-of _ _ _ _ (c .before .before .before .before .pre .1 .1) (search needs))
 
 returns : tie.Need-returns
 returns c = search binRanges

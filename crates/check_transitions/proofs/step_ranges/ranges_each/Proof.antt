@@ -10,16 +10,16 @@ use Rattle.check_transitions.proofs.step_ranges.ranges_each.Statement.{
 use Rattle.check_transitions.proofs.step_ranges.ranges_each.Tie as tie
 
 abbrev Inv-loop : tie.InvT-loop
-Inv-loop t points np b q p n start at₀ bin₀ sequence₀ step₀ i₀ at bin sequence step i =
+Inv-loop t points b q p n start at₀ bin₀ sequence₀ step₀ i₀ at bin sequence step i =
     (i ≤ n)
     × (at ≤ length t)
     × (bin ≡ b + 4 * i)
     × (sequence ≤ q + 255 * i)
     × (step ≤ p + 195075 * i)
-    × (verdictOf (each (readTransitionRanges t (pointsAt t points np)) (transitionHeadsAt t b q p n) start) ≡ verdictOf (each (readTransitionRanges t (pointsAt t points np)) (transitionHeadsAt t bin sequence step (n - i)) at))
+    × (verdictOf (each (readTransitionRanges t (pointsAt t (points .at) (points .count))) (transitionHeadsAt t b q p n) start) ≡ verdictOf (each (readTransitionRanges t (pointsAt t (points .at) (points .count))) (transitionHeadsAt t bin sequence step (n - i)) at))
 
 abbrev μ-loop : tie.MeasureT-loop
-μ-loop t points np b q p n start at₀ bin₀ sequence₀ step₀ i₀ at bin sequence step i = n - i
+μ-loop t points b q p n start at₀ bin₀ sequence₀ step₀ i₀ at bin sequence step i = n - i
 
 loop-holds : tie.Need-loop-holds Inv-loop μ-loop
 loop-holds c = search rangesEach

@@ -14,14 +14,14 @@ use Rattle.limits.proofs.bins.add_bins.Statement.{statement}
 use Rattle.limits.proofs.bins.add_bins.Tie as tie
 
 abbrev Inv-loop : tie.InvT-loop
-Inv-loop covers₀ singles₀ bars₀ t points np bins ranges n b₀ r₀ i₀ covers singles bars b r i =
-    (i ≤ n) × (b ≤ bins + 8 * i) × (r ≤ ranges + 1114095 * i) × Entries (65535 * i) covers × Entries i singles × Entries i bars × (all (countable np) (binsAt t b r (n - i)) ≡ true)
-    × (added binPoint (binCovers t points) (binsAt t bins ranges n) covers₀ ≡ added binPoint (binCovers t points) (binsAt t b r (n - i)) covers)
-    × (added binPoint binSingles (binsAt t bins ranges n) singles₀ ≡ added binPoint binSingles (binsAt t b r (n - i)) singles)
-    × (added binPoint binBars (binsAt t bins ranges n) bars₀ ≡ added binPoint binBars (binsAt t b r (n - i)) bars)
+Inv-loop covers₀ singles₀ bars₀ t l n b₀ r₀ i₀ covers singles bars b r i =
+    (i ≤ n) × (b ≤ l .bins + 8 * i) × (r ≤ l .ranges + 1114095 * i) × Entries (65535 * i) covers × Entries i singles × Entries i bars × (all (countable (l .«point_count»)) (binsAt t b r (n - i)) ≡ true)
+    × (added binPoint (binCovers t (l .points)) (binsAt t (l .bins) (l .ranges) n) covers₀ ≡ added binPoint (binCovers t (l .points)) (binsAt t b r (n - i)) covers)
+    × (added binPoint binSingles (binsAt t (l .bins) (l .ranges) n) singles₀ ≡ added binPoint binSingles (binsAt t b r (n - i)) singles)
+    × (added binPoint binBars (binsAt t (l .bins) (l .ranges) n) bars₀ ≡ added binPoint binBars (binsAt t b r (n - i)) bars)
 
 abbrev μ-loop : tie.MeasureT-loop
-μ-loop covers₀ singles₀ bars₀ t points np bins ranges n b₀ r₀ i₀ covers singles bars b r i = n - i
+μ-loop covers₀ singles₀ bars₀ t l n b₀ r₀ i₀ covers singles bars b r i = n - i
 
 loop-holds : tie.Need-loop-holds Inv-loop μ-loop
 loop-holds c =
@@ -33,17 +33,17 @@ loop-holds c =
       entries-up 0 _ _ (pre .1 .1 .0) (search needs),
       entries-up 0 _ _ (pre .1 .1 .1) (search needs),
       entries-up 0 _ _ (pre .1 .1 .2) (search needs),
-      ap (λ (m : ℕ). all (countable (a .np)) (binsAt (a .t .now) (a .bins) (a .ranges) m)) (sub-zero (a .n)) ∙ pre .1 .0,
-      bins-start _ (a .t .now) (a .bins) (a .ranges) (a .n) _,
-      bins-start _ (a .t .now) (a .bins) (a .ranges) (a .n) _,
-      bins-start _ (a .t .now) (a .bins) (a .ranges) (a .n) _,
+      ap (λ (m : ℕ). all (countable (a .l .«point_count»)) (binsAt (a .t .now) (a .l .bins) (a .l .ranges) m)) (sub-zero (a .l .«bin_count»)) ∙ pre .1 .0,
+      bins-start _ (a .t .now) (a .l .bins) (a .l .ranges) (a .l .«bin_count») _,
+      bins-start _ (a .t .now) (a .l .bins) (a .l .ranges) (a .l .«bin_count») _,
+      bins-start _ (a .t .now) (a .l .bins) (a .l .ranges) (a .l .«bin_count») _,
     )
 
 add-bin-requires : tie.Need-add-bin-requires Inv-loop μ-loop
 add-bin-requires c κs =
     let a = c .before .before .before .before .before .before .before .before .before .args in
     let l = c .before .before .before .before .loop in
-    let f = bins-first (a .t .now) (a .np) (l .b) (l .r) (a .n) (l .i) (l .inv .6) (search needs) in (
+    let f = bins-first (a .t .now) (a .l .«point_count») (l .b) (l .r) (a .l .«bin_count») (l .i) (l .inv .6) (search needs) in (
       (search needs, search needs, search needs, omega (arith, f .0), c .before .before .before .before .before .before .before .before .before .pre .0 .5 _ (f .0)),
       (f .1, (entries-up _ 50000000 _ (l .inv .3) (search needs), entries-up _ 1000 _ (l .inv .4) (search needs), entries-up _ 1000 _ (l .inv .5) (search needs))),
     )
@@ -85,10 +85,10 @@ loop-again c =
       entries-more _ 65535 _ _ _ _ _ (l .inv .3) (e .1 .1 .1) (search needs) (e .0),
       entries-more _ 1 _ _ _ _ _ (l .inv .4) (single-few kind) (search needs) (e .1 .0),
       entries-more _ 1 _ _ _ _ _ (l .inv .5) (bar-few kind) (search needs) (e .1 .1 .0),
-      bins-others (a .t .now) (a .np) (l .b) (l .r) (a .n) (l .i) (l .inv .6) (search needs) _ r,
-      bins-on _ (a .t .now) (l .b) (l .r) (a .n) (l .i) _ _ (l .inv .7) (search needs) _ _ r (e .0),
-      bins-on _ (a .t .now) (l .b) (l .r) (a .n) (l .i) _ _ (l .inv .8) (search needs) _ _ r (e .1 .0),
-      bins-on _ (a .t .now) (l .b) (l .r) (a .n) (l .i) _ _ (l .inv .9) (search needs) _ _ r (e .1 .1 .0),
+      bins-others (a .t .now) (a .l .«point_count») (l .b) (l .r) (a .l .«bin_count») (l .i) (l .inv .6) (search needs) _ r,
+      bins-on _ (a .t .now) (l .b) (l .r) (a .l .«bin_count») (l .i) _ _ (l .inv .7) (search needs) _ _ r (e .0),
+      bins-on _ (a .t .now) (l .b) (l .r) (a .l .«bin_count») (l .i) _ _ (l .inv .8) (search needs) _ _ r (e .1 .0),
+      bins-on _ (a .t .now) (l .b) (l .r) (a .l .«bin_count») (l .i) _ _ (l .inv .9) (search needs) _ _ r (e .1 .1 .0),
     )
 
 same-length : tie.Need-same-length Inv-loop μ-loop
@@ -104,11 +104,11 @@ returns : tie.Need-returns Inv-loop μ-loop
 returns c =
     let a = c .before .before .before .before .before .before .args in
     let l = c .before .loop in (
-      bins-done _ (a .t .now) (l .b) (l .r) (a .n) (l .i) _ _ (l .inv .7) (search needs),
+      bins-done _ (a .t .now) (l .b) (l .r) (a .l .«bin_count») (l .i) _ _ (l .inv .7) (search needs),
       (
-        bins-done _ (a .t .now) (l .b) (l .r) (a .n) (l .i) _ _ (l .inv .8) (search needs),
+        bins-done _ (a .t .now) (l .b) (l .r) (a .l .«bin_count») (l .i) _ _ (l .inv .8) (search needs),
         (
-          bins-done _ (a .t .now) (l .b) (l .r) (a .n) (l .i) _ _ (l .inv .9) (search needs),
+          bins-done _ (a .t .now) (l .b) (l .r) (a .l .«bin_count») (l .i) _ _ (l .inv .9) (search needs),
           (entries-up _ _ _ (l .inv .3) (search needs), entries-up _ _ _ (l .inv .4) (search needs), entries-up _ _ _ (l .inv .5) (search needs)),
         ),
       ),

@@ -42,10 +42,10 @@ shared-slice-read-code c =
     let g = c .before .before .before .before .before .before .before .before .pre .0 in
     omega (arith, point-number (a .t .now) (g .good) (a .l) (g .placed))
 
-cast-put-flags : tie.Need-cast-put-flags Inv-loop μ-loop
-cast-put-flags c =
-    let a = c .before .before .before .before .before .before .before .before .before .args in
-    let g = c .before .before .before .before .before .before .before .before .before .pre .0 in
+cast-point : tie.Need-cast-point Inv-loop μ-loop
+cast-point c =
+    let a = c .before .before .before .before .before .before .before .before .args in
+    let g = c .before .before .before .before .before .before .before .before .pre .0 in
     omega (arith, point-number (a .t .now) (g .good) (a .l) (g .placed))
 
 put-flags-requires : tie.Need-put-flags-requires Inv-loop μ-loop
@@ -102,7 +102,7 @@ put-each-spec =
     loop-holds
     mul-code
     shared-slice-read-code
-    cast-put-flags
+    cast-point
     put-flags-requires
     add-p
     loop-less

@@ -26,12 +26,12 @@ put-transitions-requires c κs =
     let lens = a .lens .now in
     let q = c .before .before .before .put-values in
     let words : (j : ℕ) → getD lens j 0 < 2 ^ 32 = λ j. c .before .before .before .before .before .shared-slice-known3 .given j .fits in
-    let near = places-ready s (g .good) (a .p) (p .1) (a .l) (g .placed) .0 in
-    let n = transition-count s w lens (g .good) words (a .p) (a .l) (g .placed) in
-    let k = few-bins s w lens (g .good) (g .widths) words (a .p) (p .1) in
-    let z = hit-parts s w lens (g .good) (g .widths) words (a .p) (p .1) (a .l) (g .placed) (a .code) (p .2) in
-    let few = few-hits s w lens (g .good) (g .widths) words (a .p) (p .1) in
-    let long = hits-length (tableOf s) w (take (length (tableOf s .transitionBins)) lens) (a .p) in
+    let near = places-ready s (g .good) (a .own .point) (p .1) (a .l) (g .placed) .0 in
+    let n = transition-count s w lens (g .good) words (a .own .point) (a .l) (g .placed) in
+    let k = few-bins s w lens (g .good) (g .widths) words (a .own .point) (p .1) in
+    let z = hit-parts s w lens (g .good) (g .widths) words (a .own .point) (p .1) (a .l) (g .placed) (a .own .code) (p .2) in
+    let few = few-hits s w lens (g .good) (g .widths) words (a .own .point) (p .1) in
+    let long = hits-length (tableOf s) w (take (length (tableOf s .transitionBins)) lens) (a .own .point) in
     (near .transitions-near, omega (arith, n, k), omega (arith, n, k, p .4), omega (arith, simp length-append at (ap length z), long, few, q .ensures .0, q .kept .0, p .3))
 
 same-length : tie.Need-same-length
@@ -48,9 +48,9 @@ returns c =
     let q = c .before .before .before .before .before .before .put-values in
     let r = c .before .before .put-transitions in
     let words : (j : ℕ) → getD lens j 0 < 2 ^ 32 = λ j. c .before .before .before .before .before .before .before .before .shared-slice-known3 .given j .fits in
-    let z = hit-parts s w lens (g .good) (g .widths) words (a .p) (p .1) (a .l) (g .placed) (a .code) (p .2) in
-    let few = few-hits s w lens (g .good) (g .widths) words (a .p) (p .1) in
-    let long = hits-length (tableOf s) w (take (length (tableOf s .transitionBins)) lens) (a .p) in
+    let z = hit-parts s w lens (g .good) (g .widths) words (a .own .point) (p .1) (a .l) (g .placed) (a .own .code) (p .2) in
+    let few = few-hits s w lens (g .good) (g .widths) words (a .own .point) (p .1) in
+    let long = hits-length (tableOf s) w (take (length (tableOf s .transitionBins)) lens) (a .own .point) in
     let both = both-written (a .cur) (q .result) (r .result) _ _ _ (a .flags .now) (q .last .0) (r .last .0) z (omega (arith, long, few, p .3)) (q .ensures .0) (q .ensures .1) (r .ensures .0) (r .ensures .1) in
     (omega (arith, both .0, long), both .1)
 

@@ -16,12 +16,12 @@ use Rattle.runs.proofs.advance.advance_bin.Statement.{statement}
 use Rattle.runs.proofs.advance.advance_bin.Tie as tie
 
 abbrev Inv-loop : tie.InvT-loop
-Inv-loop register₀ a t q p r n code words₀ steps₀ ranges₀ i₀ register words steps ranges i =
-    (length register ≡ length register₀) × Walk t q p r a n i steps ranges words
-    × (put words (binRuns (readingFrom code) (sequencesAt t (q + i) steps ranges (n - i)) (drop words register)) register ≡ put a (binRuns (readingFrom code) (sequencesAt t q p r n) (drop a register₀)) register₀)
+Inv-loop register₀ t q n code words₀ steps₀ ranges₀ i₀ register words steps ranges i =
+    (length register ≡ length register₀) × Walk t q steps₀ ranges₀ words₀ n i steps ranges words
+    × (put words (binRuns (readingFrom code) (sequencesAt t (q + i) steps ranges (n - i)) (drop words register)) register ≡ put words₀ (binRuns (readingFrom code) (sequencesAt t q steps₀ ranges₀ n) (drop words₀ register₀)) register₀)
 
 abbrev μ-loop : tie.MeasureT-loop
-μ-loop register₀ a t q p r n code words₀ steps₀ ranges₀ i₀ register words steps ranges i = n - i
+μ-loop register₀ t q n code words₀ steps₀ ranges₀ i₀ register words steps ranges i = n - i
 
 loop-holds : tie.Need-loop-holds Inv-loop μ-loop
 loop-holds c =
@@ -29,8 +29,8 @@ loop-holds c =
     let x = readingFrom (a .code) in
     let w = a .register .now in (
       refl,
-      walk-start (a .t .now) (a .q) (a .p) (a .r) (a .a) (a .n) (c .before .before .pre .1 .0),
-      ap (λ (sss : List (List Step)). put (a .a) (binRuns x sss (drop (a .a) w)) w) (sequences-start (a .t .now) (a .q) (a .p) (a .r) (a .a) (a .n)),
+      walk-start (a .t .now) (a .q) (a .place .steps) (a .place .ranges) (a .place .words) (a .n) (c .before .before .pre .1 .0),
+      ap (λ (sss : List (List Step)). put (a .place .words) (binRuns x sss (drop (a .place .words) w)) w) (sequences-start (a .t .now) (a .q) (a .place .steps) (a .place .ranges) (a .place .words) (a .n)),
     )
 
 add-byte : tie.Need-add-byte Inv-loop μ-loop
@@ -47,11 +47,11 @@ here : (c : tie.After-byte Inv-loop μ-loop) →
     let a = c .before .before .before .before .before .args in
     let l = c .before .before .loop in
     let ss = stepsAt (a .t .now) (l .steps) (l .ranges) (c .byte .result) in
-    (c .byte .result ≤ 16) × (runLength ss ≤ 32) × (l .words + runLength ss ≤ a .a + sumOf runLength (sequencesAt (a .t .now) (a .q) (a .p) (a .r) (a .n)))
+    (c .byte .result ≤ 16) × (runLength ss ≤ 32) × (l .words + runLength ss ≤ a .place .words + sumOf runLength (sequencesAt (a .t .now) (a .q) (a .place .steps) (a .place .ranges) (a .n)))
 here c =
     let a = c .before .before .before .before .before .args in
     let l = c .before .before .loop in
-    walk-here (a .t .now) (a .q) (a .p) (a .r) (a .a) (a .n) (l .i) (l .steps) (l .ranges) (l .words) (l .inv .1) (omega arith) (c .byte .result) (c .byte .ensures)
+    walk-here (a .t .now) (a .q) (a .place .steps) (a .place .ranges) (a .place .words) (a .n) (l .i) (l .steps) (l .ranges) (l .words) (l .inv .1) (omega arith) (c .byte .result) (c .byte .ensures)
 
 advance-sequence-requires : tie.Need-advance-sequence-requires Inv-loop μ-loop
 advance-sequence-requires c κs =
@@ -90,10 +90,10 @@ loop-again c =
     let ss = stepsAt s (l .steps) (l .ranges) (k .result) in
     let sss = sequencesAt s (a .q + (l .i + 1)) (l .steps + 3 * k .result) (e .result) (a .n - (l .i + 1)) in (
       w .kept .0 ∙ l .inv .0,
-      walk-turn s (a .q) (a .p) (a .r) (a .a) (a .n) (l .i) (l .steps) (l .ranges) (l .words) walk h (k .result) (k .ensures) (e .result) (w .result) (w .ensures .0) (e .ensures .0) (e .ensures .1),
+      walk-turn s (a .q) (a .place .steps) (a .place .ranges) (a .place .words) (a .n) (l .i) (l .steps) (l .ranges) (l .words) walk h (k .result) (k .ensures) (e .result) (w .result) (w .ensures .0) (e .ensures .0) (e .ensures .1),
       sequence-turn x ss sss (l .words) (w .result) (l .register) (w .last .0) (w .ensures .0) (omega arith) (w .ensures .1)
           ∙ ap (λ (ys : List (List Step)). put (l .words) (binRuns x ys (drop (l .words) (l .register))) (l .register))
-          (sym (left-turn s (a .q) (a .p) (a .r) (a .a) (a .n) (l .i) (l .steps) (l .ranges) (l .words) walk h (k .result) (k .ensures) (e .result) (e .ensures .0)))
+          (sym (left-turn s (a .q) (a .place .steps) (a .place .ranges) (a .place .words) (a .n) (l .i) (l .steps) (l .ranges) (l .words) walk h (k .result) (k .ensures) (e .result) (e .ensures .0)))
           ∙ l .inv .2,
     )
 
@@ -107,8 +107,8 @@ returns c =
     let s = a .t .now in
     let x = readingFrom (a .code) in
     let h : a .n ≤ l .i = omega arith in (
-      walk-end s (a .q) (a .p) (a .r) (a .a) (a .n) (l .i) (l .steps) (l .ranges) (l .words) (l .inv .1) h,
-      sym (ap (λ (ys : List (List Step)). put (l .words) (binRuns x ys (drop (l .words) (l .register))) (l .register)) (sequences-end s (a .q) (a .p) (a .r) (a .a) (a .n) (l .i) (l .steps) (l .ranges) (l .words) (l .inv .1) h)
+      walk-end s (a .q) (a .place .steps) (a .place .ranges) (a .place .words) (a .n) (l .i) (l .steps) (l .ranges) (l .words) (l .inv .1) h,
+      sym (ap (λ (ys : List (List Step)). put (l .words) (binRuns x ys (drop (l .words) (l .register))) (l .register)) (sequences-end s (a .q) (a .place .steps) (a .place .ranges) (a .place .words) (a .n) (l .i) (l .steps) (l .ranges) (l .words) (l .inv .1) h)
           ∙ sequences-none x (l .words) (drop (l .words) (l .register)) (l .register))
           ∙ l .inv .2,
     )

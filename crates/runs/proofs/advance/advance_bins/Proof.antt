@@ -18,20 +18,20 @@ use Rattle.runs.proofs.advance.advance_bins.Statement.{statement}
 use Rattle.runs.proofs.advance.advance_bins.Tie as tie
 
 abbrev Inv-loop : tie.InvT-loop
-Inv-loop register₀ at t readings b q p r n words₀ sequence₀ steps₀ ranges₀ i₀ register words sequence steps ranges i =
-    (length register ≡ length register₀) × Bins t b q p r at n i sequence steps ranges words
-    × (put words (allRuns readings (transitionsAt t (b + 4 * i) sequence steps ranges (n - i)) (drop words register)) register ≡ put at (allRuns readings (transitionsAt t b q p r n) (drop at register₀)) register₀)
+Inv-loop register₀ at t readings b n sequence₀ place₀ i₀ register sequence place i =
+    (length register ≡ length register₀) × Bins t b sequence₀ (place₀ .steps) (place₀ .ranges) at n i sequence (place .steps) (place .ranges) (place .words)
+    × (put (place .words) (allRuns readings (transitionsAt t (b + 4 * i) sequence (place .steps) (place .ranges) (n - i)) (drop (place .words) register)) register ≡ put at (allRuns readings (transitionsAt t b sequence₀ (place₀ .steps) (place₀ .ranges) n) (drop at register₀)) register₀)
 
 abbrev μ-loop : tie.MeasureT-loop
-μ-loop register₀ at t readings b q p r n words₀ sequence₀ steps₀ ranges₀ i₀ register words sequence steps ranges i = n - i
+μ-loop register₀ at t readings b n sequence₀ place₀ i₀ register sequence place i = n - i
 
 loop-holds : tie.Need-loop-holds Inv-loop μ-loop
 loop-holds c =
     let a = c .before .before .before .args in
     let w = a .register .now in (
       refl,
-      bins-start (a .t .now) (a .b) (a .q) (a .p) (a .r) (a .at) (a .n) (c .before .before .before .pre .1 .0),
-      ap (λ (bs : List TransitionBin). put (a .at) (allRuns (a .readings .now) bs (drop (a .at) w)) w) (transitions-start (a .t .now) (a .b) (a .q) (a .p) (a .r) (a .at) (a .n)),
+      bins-start (a .t .now) (a .l .transitions) (a .l .sequences) (a .l .steps) (a .l .«step_ranges») (a .at) (a .l .«transition_count») (c .before .before .before .pre .1 .0),
+      ap (λ (bs : List TransitionBin). put (a .at) (allRuns (a .readings .now) bs (drop (a .at) w)) w) (transitions-start (a .t .now) (a .l .transitions) (a .l .sequences) (a .l .steps) (a .l .«step_ranges») (a .at) (a .l .«transition_count»)),
     )
 
 mul-here : tie.Need-mul-here Inv-loop μ-loop
@@ -62,13 +62,13 @@ mul-advance-bin c = omega arith
 here : (c : tie.After-byte2 Inv-loop μ-loop) →
     let a = c .before .before .before .before .before .before .before .args in
     let l = c .before .before .before .loop in
-    let sss = sequencesAt (a .t .now) (l .sequence) (l .steps) (l .ranges) (c .byte2 .result) in
-    (byte (a .t .now) (a .b + 4 * l .i) < 16) × (all sequenceFits sss ≡ true)
-    × (l .words + sumOf runLength sss ≤ a .at + sumOf binWords (transitionsAt (a .t .now) (a .b) (a .q) (a .p) (a .r) (a .n)))
+    let sss = sequencesAt (a .t .now) (l .sequence) (l .place .steps) (l .place .ranges) (c .byte2 .result) in
+    (byte (a .t .now) (a .l .transitions + 4 * l .i) < 16) × (all sequenceFits sss ≡ true)
+    × (l .place .words + sumOf runLength sss ≤ a .at + sumOf binWords (transitionsAt (a .t .now) (a .l .transitions) (a .l .sequences) (a .l .steps) (a .l .«step_ranges») (a .l .«transition_count»)))
 here c =
     let a = c .before .before .before .before .before .before .before .args in
     let l = c .before .before .before .loop in
-    bins-here (a .t .now) (a .b) (a .q) (a .p) (a .r) (a .at) (a .n) (l .i) (l .sequence) (l .steps) (l .ranges) (l .words) (l .inv .1) (omega arith) (c .byte2 .result) (c .byte2 .ensures)
+    bins-here (a .t .now) (a .l .transitions) (a .l .sequences) (a .l .steps) (a .l .«step_ranges») (a .at) (a .l .«transition_count») (l .i) (l .sequence) (l .place .steps) (l .place .ranges) (l .place .words) (l .inv .1) (omega arith) (c .byte2 .result) (c .byte2 .ensures)
 
 shared-slice-read-advance-bin : tie.Need-shared-slice-read-advance-bin Inv-loop μ-loop
 shared-slice-read-advance-bin c =
@@ -99,16 +99,16 @@ loop-again c =
     let w = c .before .before .advance-bin in
     let e = w .result in
     let bins = l .inv .1 in
-    let h : l .i < a .n = omega arith in
+    let h : l .i < a .l .«transition_count» = omega arith in
     let room = here (c .before .before .before .before .before) .2 in
-    let b = transitionAt s (a .b + 4 * l .i) (l .sequence) (l .steps) (l .ranges) in
-    let bs = transitionsAt s (a .b + 4 * (l .i + 1)) (l .sequence + k .result) (e .steps) (e .ranges) (a .n - (l .i + 1)) in (
+    let b = transitionAt s (a .l .transitions + 4 * l .i) (l .sequence) (l .place .steps) (l .place .ranges) in
+    let bs = transitionsAt s (a .l .transitions + 4 * (l .i + 1)) (l .sequence + k .result) (e .steps) (e .ranges) (a .l .«transition_count» - (l .i + 1)) in (
       w .kept .0 ∙ l .inv .0,
-      bins-turn s (a .b) (a .q) (a .p) (a .r) (a .at) (a .n) (l .i) (l .sequence) (l .steps) (l .ranges) (l .words) bins h (k .result) (k .ensures) (e .words) (e .steps) (e .ranges) (w .ensures .0) (omega arith),
-      bin-turn (a .readings .now) b bs (point .result) (sequencesAt s (l .sequence) (l .steps) (l .ranges) (k .result)) (l .words) (e .words) (l .register) (w .last .0)
-          (point .ensures) (ap (sequencesAt s (l .sequence) (l .steps) (l .ranges)) (k .ensures)) (w .ensures .0 .words-end) (omega (arith, l .inv .0, c .before .before .before .before .before .before .before .before .before .before .before .before .pre .1 .1)) (w .ensures .1)
-          ∙ ap (λ (ys : List TransitionBin). put (l .words) (allRuns (a .readings .now) ys (drop (l .words) (l .register))) (l .register))
-          (sym (transitions-turn s (a .b) (a .q) (a .p) (a .r) (a .at) (a .n) (l .i) (l .sequence) (l .steps) (l .ranges) (l .words) bins h (k .result) (k .ensures) (e .words) (e .steps) (e .ranges) (w .ensures .0)))
+      bins-turn s (a .l .transitions) (a .l .sequences) (a .l .steps) (a .l .«step_ranges») (a .at) (a .l .«transition_count») (l .i) (l .sequence) (l .place .steps) (l .place .ranges) (l .place .words) bins h (k .result) (k .ensures) (e .words) (e .steps) (e .ranges) (w .ensures .0) (omega arith),
+      bin-turn (a .readings .now) b bs (point .result) (sequencesAt s (l .sequence) (l .place .steps) (l .place .ranges) (k .result)) (l .place .words) (e .words) (l .register) (w .last .0)
+          (point .ensures) (ap (sequencesAt s (l .sequence) (l .place .steps) (l .place .ranges)) (k .ensures)) (w .ensures .0 .words-end) (omega (arith, l .inv .0, c .before .before .before .before .before .before .before .before .before .before .before .before .pre .1 .1)) (w .ensures .1)
+          ∙ ap (λ (ys : List TransitionBin). put (l .place .words) (allRuns (a .readings .now) ys (drop (l .place .words) (l .register))) (l .register))
+          (sym (transitions-turn s (a .l .transitions) (a .l .sequences) (a .l .steps) (a .l .«step_ranges») (a .at) (a .l .«transition_count») (l .i) (l .sequence) (l .place .steps) (l .place .ranges) (l .place .words) bins h (k .result) (k .ensures) (e .words) (e .steps) (e .ranges) (w .ensures .0)))
           ∙ l .inv .2,
     )
 
@@ -119,9 +119,9 @@ returns : tie.Need-returns Inv-loop μ-loop
 returns c =
     let a = c .before .before .before .before .before .args in
     let l = c .before .loop in
-    let h : a .n ≤ l .i = omega arith in
-    sym (ap (λ (ys : List TransitionBin). put (l .words) (allRuns (a .readings .now) ys (drop (l .words) (l .register))) (l .register)) (transitions-end (a .t .now) (a .b) (a .q) (a .p) (a .r) (a .at) (a .n) (l .i) (l .sequence) (l .steps) (l .ranges) (l .words) (l .inv .1) h)
-    ∙ bins-none (a .readings .now) (l .words) (drop (l .words) (l .register)) (l .register))
+    let h : a .l .«transition_count» ≤ l .i = omega arith in
+    sym (ap (λ (ys : List TransitionBin). put (l .place .words) (allRuns (a .readings .now) ys (drop (l .place .words) (l .register))) (l .register)) (transitions-end (a .t .now) (a .l .transitions) (a .l .sequences) (a .l .steps) (a .l .«step_ranges») (a .at) (a .l .«transition_count») (l .i) (l .sequence) (l .place .steps) (l .place .ranges) (l .place .words) (l .inv .1) h)
+    ∙ bins-none (a .readings .now) (l .place .words) (drop (l .place .words) (l .register)) (l .register))
     ∙ l .inv .2
 
 pub advance-bins-spec : {M : Type 1} → statement M

@@ -20,18 +20,18 @@ use Rattle.runs.proofs.lengths.bin_lengths.Statement.{statement}
 use Rattle.runs.proofs.lengths.bin_lengths.Tie as tie
 
 abbrev Inv-loop : tie.InvT-loop
-Inv-loop t register a q p r n out₀ words₀ steps₀ ranges₀ i₀ out words steps ranges i =
-    Walk t q p r a n i steps ranges words
-    × (bitOr out (binLengths (sequencesAt t (q + i) steps ranges (n - i)) (drop words register)) ≡ binLengths (sequencesAt t q p r n) (drop a register))
+Inv-loop t register q n out₀ words₀ steps₀ ranges₀ i₀ out words steps ranges i =
+    Walk t q steps₀ ranges₀ words₀ n i steps ranges words
+    × (bitOr out (binLengths (sequencesAt t (q + i) steps ranges (n - i)) (drop words register)) ≡ binLengths (sequencesAt t q steps₀ ranges₀ n) (drop words₀ register))
 
 abbrev μ-loop : tie.MeasureT-loop
-μ-loop t register a q p r n out₀ words₀ steps₀ ranges₀ i₀ out words steps ranges i = n - i
+μ-loop t register q n out₀ words₀ steps₀ ranges₀ i₀ out words steps ranges i = n - i
 
 loop-holds : tie.Need-loop-holds Inv-loop μ-loop
 loop-holds c =
     let a = c .before .before .args in (
-      walk-start (a .t .now) (a .q) (a .p) (a .r) (a .a) (a .n) (c .before .before .pre .1 .0),
-      ap (λ (sss : List (List Step)). binLengths sss (drop (a .a) (a .register .now))) (sequences-start (a .t .now) (a .q) (a .p) (a .r) (a .a) (a .n)),
+      walk-start (a .t .now) (a .q) (a .place .steps) (a .place .ranges) (a .place .words) (a .n) (c .before .before .pre .1 .0),
+      ap (λ (sss : List (List Step)). binLengths sss (drop (a .place .words) (a .register .now))) (sequences-start (a .t .now) (a .q) (a .place .steps) (a .place .ranges) (a .place .words) (a .n)),
     )
 
 add-byte : tie.Need-add-byte Inv-loop μ-loop
@@ -48,11 +48,11 @@ here : (c : tie.After-byte Inv-loop μ-loop) →
     let a = c .before .before .before .before .before .args in
     let l = c .before .before .loop in
     let ss = stepsAt (a .t .now) (l .steps) (l .ranges) (c .byte .result) in
-    (c .byte .result ≤ 16) × (runLength ss ≤ 32) × (l .words + runLength ss ≤ a .a + sumOf runLength (sequencesAt (a .t .now) (a .q) (a .p) (a .r) (a .n)))
+    (c .byte .result ≤ 16) × (runLength ss ≤ 32) × (l .words + runLength ss ≤ a .place .words + sumOf runLength (sequencesAt (a .t .now) (a .q) (a .place .steps) (a .place .ranges) (a .n)))
 here c =
     let a = c .before .before .before .before .before .args in
     let l = c .before .before .loop in
-    walk-here (a .t .now) (a .q) (a .p) (a .r) (a .a) (a .n) (l .i) (l .steps) (l .ranges) (l .words) (l .inv .0) (omega arith) (c .byte .result) (c .byte .ensures)
+    walk-here (a .t .now) (a .q) (a .place .steps) (a .place .ranges) (a .place .words) (a .n) (l .i) (l .steps) (l .ranges) (l .words) (l .inv .0) (omega arith) (c .byte .result) (c .byte .ensures)
 
 own-words : (c : tie.After-steps-at Inv-loop μ-loop) →
     let l = c .before .before .before .loop in
@@ -118,11 +118,11 @@ loop-again c =
     let ss = stepsAt s (l .steps) (l .ranges) (k .result) in
     let sss = sequencesAt s (a .q + (l .i + 1)) (l .steps + 3 * k .result) (e .result) (a .n - (l .i + 1)) in
     let ew : l .words + n .result ≡ l .words + runLength ss = ap (l .words +_) (n .ensures ∙ own-words (c .before .before .before)) in (
-      walk-turn s (a .q) (a .p) (a .r) (a .a) (a .n) (l .i) (l .steps) (l .ranges) (l .words) walk h (k .result) (k .ensures) (e .result) (l .words + n .result) ew (e .ensures .0) (e .ensures .1),
+      walk-turn s (a .q) (a .place .steps) (a .place .ranges) (a .place .words) (a .n) (l .i) (l .steps) (l .ranges) (l .words) walk h (k .result) (k .ensures) (e .result) (l .words + n .result) ew (e .ensures .0) (e .ensures .1),
       ap₂ (λ (x y : ℕ). bitOr (bitOr (l .out) x) (binLengths sss (drop y w))) (m .ensures ss (d .ensures .shape)) ew
           ∙ lengths-turn ss sss (l .words) (l .out) w
           ∙ ap (λ (ys : List (List Step)). bitOr (l .out) (binLengths ys (drop (l .words) w)))
-          (sym (left-turn s (a .q) (a .p) (a .r) (a .a) (a .n) (l .i) (l .steps) (l .ranges) (l .words) walk h (k .result) (k .ensures) (e .result) (e .ensures .0)))
+          (sym (left-turn s (a .q) (a .place .steps) (a .place .ranges) (a .place .words) (a .n) (l .i) (l .steps) (l .ranges) (l .words) walk h (k .result) (k .ensures) (e .result) (e .ensures .0)))
           ∙ l .inv .1,
     )
 
@@ -133,8 +133,8 @@ returns c =
     let s = a .t .now in
     let w = a .register .now in
     let h : a .n ≤ l .i = omega arith in (
-      walk-end s (a .q) (a .p) (a .r) (a .a) (a .n) (l .i) (l .steps) (l .ranges) (l .words) (l .inv .0) h,
-      sym (ap (λ (ys : List (List Step)). bitOr (l .out) (binLengths ys (drop (l .words) w))) (sequences-end s (a .q) (a .p) (a .r) (a .a) (a .n) (l .i) (l .steps) (l .ranges) (l .words) (l .inv .0) h)
+      walk-end s (a .q) (a .place .steps) (a .place .ranges) (a .place .words) (a .n) (l .i) (l .steps) (l .ranges) (l .words) (l .inv .0) h,
+      sym (ap (λ (ys : List (List Step)). bitOr (l .out) (binLengths ys (drop (l .words) w))) (sequences-end s (a .q) (a .place .steps) (a .place .ranges) (a .place .words) (a .n) (l .i) (l .steps) (l .ranges) (l .words) (l .inv .0) h)
           ∙ lengths-end (l .out) (drop (l .words) w))
           ∙ l .inv .1,
     )

@@ -25,14 +25,14 @@ add-read2-2 c = search needs
 read2-requires-2 : tie.Need-read2-requires-2
 read2-requires-2 c κs = search needs
 
-cast-put-cover : tie.Need-cast-put-cover
-cast-put-cover c = search needs
+cast-n : tie.Need-cast-n
+cast-n c = search needs
 
 put-cover-requires : tie.Need-put-cover-requires
 put-cover-requires c κs =
     let a = c .before .before .before .before .before .before .args in
     let f = cover-needs (a .t .now) (a .a) (a .r) (c .before .before .before .byte .result) (c .before .before .read2 .result) (c .before .read22 .result) (c .before .before .before .byte .ensures) (c .before .before .read2 .ensures) (c .before .read22 .ensures) (omega arith) (c .before .before .before .before .before .before .pre .0 .3) in
-    ((search needs, search needs, search needs, f), omega (arith, ap length (cover-at (a .t .now) (a .a) (a .r) (c .before .before .before .byte .result) (c .before .before .read2 .result) (c .before .read22 .result) (c .before .before .before .byte .ensures) (c .before .before .read2 .ensures) (c .before .read22 .ensures) (a .low) (a .v) (a .live))))
+    ((search needs, search needs, search needs, f), omega (arith, ap length (cover-at (a .t .now) (a .a) (a .r) (c .before .before .before .byte .result) (c .before .before .read2 .result) (c .before .read22 .result) (c .before .before .before .byte .ensures) (c .before .before .read2 .ensures) (c .before .read22 .ensures) (a .s .low) (a .s .value) (a .s .live))))
 
 same-length : tie.Need-same-length
 same-length c = search needs
@@ -41,7 +41,7 @@ returns : tie.Need-returns
 returns c =
     let a = c .before .before .before .before .before .before .before .before .before .args in
     let p = c .before .before .put-cover in
-    as-written (a .cur) (p .result) _ _ _ _ (p .last .0) (cover-at (a .t .now) (a .a) (a .r) (c .before .before .before .before .before .before .byte .result) (c .before .before .before .before .before .read2 .result) (c .before .before .before .before .read22 .result) (c .before .before .before .before .before .before .byte .ensures) (c .before .before .before .before .before .read2 .ensures) (c .before .before .before .before .read22 .ensures) (a .low) (a .v) (a .live)) refl (p .ensures .0) (p .ensures .1)
+    as-written (a .cur) (p .result) _ _ _ _ (p .last .0) (cover-at (a .t .now) (a .a) (a .r) (c .before .before .before .before .before .before .byte .result) (c .before .before .before .before .before .read2 .result) (c .before .before .before .before .read22 .result) (c .before .before .before .before .before .before .byte .ensures) (c .before .before .before .before .before .read2 .ensures) (c .before .before .before .before .read22 .ensures) (a .s .low) (a .s .value) (a .s .live)) refl (p .ensures .0) (p .ensures .1)
 
 pub put-cover-at-spec : {M : Type 1} → statement M
 put-cover-at-spec =
@@ -53,7 +53,7 @@ put-cover-at-spec =
     read2-requires
     add-read2-2
     read2-requires-2
-    cast-put-cover
+    cast-n
     put-cover-requires
     same-length
     returns)

@@ -9,8 +9,8 @@ put-same-requires c κs = search needs
 share-requires : tie.Need-share-requires
 share-requires c κs = search needs
 
-sub-mark : tie.Need-sub-mark
-sub-mark c = search needs
+sub-last : tie.Need-sub-last
+sub-last c = search needs
 
 mark-requires : tie.Need-mark-requires
 mark-requires c κs = search needs
@@ -33,7 +33,7 @@ put-fixed-spec =
     (tie.spec
     put-same-requires
     share-requires
-    sub-mark
+    sub-last
     mark-requires
     same-length
     returns
