@@ -21,6 +21,7 @@ use figures::percent_of;
 use figures::present;
 use layout::layout_of;
 use sampling::put_items;
+use sampling::put_kinds;
 use sampling::put_totals;
 use values::fields::word;
 use words::bytes::byte;
@@ -158,10 +159,12 @@ fn say_places(
 fn say_counters(out: &mut [u8], table: &[u8], register: &[u32], kinds: &[u8], points: usize)
     requires { ⌜ accepted (now table) ≡ true ⌝ }
 {
+    let mut all = [0u8; 12416];
+    let x = put_kinds(&mut all, table);
     let mut items = [0u8; 12416];
-    put_items(&mut items, table);
+    put_items(&mut items, table, x);
     let mut totals = [0u8; 12416];
-    put_totals(&mut totals, table);
+    put_totals(&mut totals, table, &all, x);
     let mut leasts = [0u32; 256];
     put_leasts(&mut leasts, table);
     say_places(out, register, kinds, &items, &totals, &leasts, points);
