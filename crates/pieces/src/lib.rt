@@ -1,2 +1,2 @@
 // What is left of the parts of each point, as pieces, and which parts still hold a value from lo to hi.
-pub mod met;
+pub mod cuts;

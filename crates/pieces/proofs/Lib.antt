@@ -1,0 +1,3 @@
+pub mod CutLaws
+pub mod PointPieces
+pub mod WordLaws

@@ -1,4 +1,0 @@
-// A number.
-pub fn one() -> u64 {
-    1
-}
