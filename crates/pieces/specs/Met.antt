@@ -44,6 +44,10 @@ metFlags f lo hi qs n = map (λ j. asBit (oneOf j (metParts f lo hi qs))) (upFro
 abbrev pub nextFit : ℕ → ℕ → ℕ → ℕ
 nextFit bits mask x = cond (ltb x bias && eqb bits 0) x (nextInRange (pattern bits mask) x)
 
+-- what the code asks of a piece, where there are m parts
+abbrev pub PartBelow : ℕ → Piece → Type 0
+PartBelow m q = q .part < m
+
 -- what is asked is of point p: its spans and pieces, the lowest value of its type, two values of it, and how many parts it has
 pub record Asked (t : Table) (p : ℕ) (spans words : List ℕ) (low lo hi parts : ℕ) : Type 0 where
   pub free : SpansOf t p spans
