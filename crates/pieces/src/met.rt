@@ -1,4 +1,124 @@
-// A number.
-pub fn one() -> u64 {
-    1
+// Which parts of a point still hold a value from lo to hi, by its pieces.
+use arrays::put_same;
+use parts::raised::word;
+use ranges::next::larger;
+use ranges::next::less;
+use ranges::next::next_pattern;
+use spans::lookup::free_value;
+ghost use mathlib.Core.Path.{_≡_};
+ghost use mathlib.Core.Bool.{true};
+ghost use Prim.Native.Nat.{ℕ, _<_, _≤_, _+_, _*_, _/_, _%_};
+ghost use lib.ListN.{length};
+ghost use Rattle.model.specs.Table.{Table, pattern};
+ghost use Rattle.model.specs.Values.{inRange};
+ghost use Rattle.model.proofs.Readers.{All};
+ghost use Rattle.arrays.specs.Put.{put};
+ghost use Rattle.spans.specs.Spans.{apart};
+ghost use Rattle.spans.specs.Point.{freeValue};
+ghost use Rattle.parts.specs.Rows.{raiseAll};
+ghost use Rattle.pieces.specs.Pieces.{pieceAt, piecesAt, metBits};
+ghost use Rattle.pieces.specs.Met.{patternMet, isMet, metParts, metOne, metFlags, nextFit, PartBelow, Asked};
+
+// The lowest value of the point's type, two values of it, and how many parts the point has.
+pub struct Ask {
+    pub low: u64,
+    pub lo: u64,
+    pub hi: u64,
+    pub parts: usize,
+}
+
+// The value fits the pattern.
+fn fits(bits: u64, mask: u64, v: u64) -> bool
+    ensures { λ r. ⌜ r ≡ inRange (pattern bits mask) v ⌝ }
+{
+    less(v, 2147483648) & mask == bits
+}
+
+// The least value from x up that fits the pattern, or a smaller number where none does.
+fn next_fit(bits: u64, mask: u64, x: u64) -> u64
+    requires { ⌜ x ≤ 17179869184 ⌝ }
+    ensures { λ r. ⌜ (r ≡ nextFit bits mask x) × (r ≤ x + 17179869184) ⌝ }
+{
+    if (x < 2147483648) & (bits == 0) {
+        return x;
+    }
+    2147483648 + next_pattern(bits, mask, less(x, 2147483648))
+}
+
+// A value from lo to hi fits the pattern and is left.
+fn pattern_met(spans: &[u64], bits: u64, mask: u64, ask: Ask) -> bool
+    requires { ⌜ (apart (now spans) ≡ true) × (ask .low ≤ ask .lo) × (ask .lo < 8589934592) × (ask .hi < 8589934592) ⌝ }
+    ensures { λ r. ⌜ r ≡ patternMet (freeValue (now (spans .entry)) (ask .low)) bits mask (ask .lo) (ask .hi) ⌝ }
+{
+    let mut v = next_fit(bits, mask, ask.lo);
+    while v <= ask.hi {
+        let free = free_value(spans, ask.low, v);
+        if (free == v) & fits(bits, mask, v) {
+            return true;
+        }
+        v = next_fit(bits, mask, larger(free, v + 1));
+    }
+    false
+}
+
+// The piece at at is met. from is the first value from lo up that is left.
+fn is_met(words: &[u64], at: usize, spans: &[u64], from: u64, ask: Ask) -> bool
+    requires { ⌜ (at < 1000000000) × (from ≡ freeValue (now spans) (ask .low) (ask .lo)) × (apart (now spans) ≡ true) × (ask .low ≤ ask .lo) × (ask .lo < 8589934592) × (ask .hi < 8589934592) ⌝ }
+    ensures { λ r. ⌜ r ≡ isMet (freeValue (now (spans .entry)) (ask .low)) (ask .lo) (ask .hi) (pieceAt (now (words .entry)) at .range) ⌝ }
+{
+    let a = word(words, at);
+    let b = word(words, at + 1);
+    if word(words, at + 2) < 65536 {
+        return (a <= ask.hi) & (from <= b) & (from <= ask.hi);
+    }
+    pattern_met(spans, a, b, ask)
+}
+
+// A 1 at its part, if it is met.
+fn meet_one(flags: &mut [u8], words: &[u64], at: usize, spans: &[u64], from: u64, ask: Ask)
+    requires { ⌜ (at < 1000000000) × (from ≡ freeValue (now spans) (ask .low) (ask .lo)) × (apart (now spans) ≡ true) × (ask .low ≤ ask .lo) × (ask .lo < 8589934592) × (ask .hi < 8589934592) ⌝ }
+    requires { ⌜ PartBelow (length (now flags)) (pieceAt (now words) at) ⌝ }
+    ensures { λ _. ⌜ now (flags .exit) ≡ metOne (freeValue (now (spans .entry)) (ask .low)) (ask .lo) (ask .hi) (pieceAt (now (words .entry)) at) (now (flags .entry)) ⌝ }
+{
+    if !is_met(words, at, spans, from, ask) {
+        return;
+    }
+    let k = (word(words, at + 2) % 65536) as usize;
+    flags[k] = 1;
+}
+
+// A 1 at each part of which one of n pieces is met.
+fn meet(flags: &mut [u8], words: &[u64], n: usize, spans: &[u64], ask: Ask)
+    requires { ⌜ (n < 65536) × (apart (now spans) ≡ true) × (ask .low ≤ ask .lo) × (ask .lo < 8589934592) × (ask .hi < 8589934592) ⌝ }
+    requires { ⌜ All (PartBelow (length (now flags))) (piecesAt (now words) 0 n) ⌝ }
+    ensures { λ _. ⌜ now (flags .exit) ≡ raiseAll (metParts (freeValue (now (spans .entry)) (ask .low)) (ask .lo) (ask .hi) (piecesAt (now (words .entry)) 0 n)) (now (flags .entry)) ⌝ }
+{
+    let from = free_value(spans, ask.low, ask.lo);
+    let mut i = 0;
+    while i < n {
+        meet_one(flags, words, 3 * i, spans, from, ask);
+        i += 1;
+    }
+}
+
+// A byte for each part: 1 where one of its pieces is met.
+fn put_flags(flags: &mut [u8], words: &[u64], n: usize, spans: &[u64], ask: Ask)
+    requires { ⌜ (n < 65536) × (apart (now spans) ≡ true) × (ask .low ≤ ask .lo) × (ask .lo < 8589934592) × (ask .hi < 8589934592) ⌝ }
+    requires { ⌜ All (PartBelow (length (now flags))) (piecesAt (now words) 0 n) ⌝ }
+    ensures { λ _. ⌜ now (flags .exit) ≡ metFlags (freeValue (now (spans .entry)) (ask .low)) (ask .lo) (ask .hi) (piecesAt (now (words .entry)) 0 n) (length (now (flags .entry))) ⌝ }
+{
+    let m = flags.len();
+    put_same(flags, 0, m, 0);
+    meet(flags, words, n, spans, ask);
+}
+
+// For each part of the point: whether it still holds a value from lo to hi. words has the point's pieces, three words each.
+pub fn put_met(out: &mut [u8], at: usize, words: &[u64], spans: &[u64], ask: Ask)
+    requires { ⌜ (at + ask .parts ≤ length (now out)) × (length (now words) < 196608) × All (PartBelow (ask .parts)) (piecesAt (now words) 0 (length (now words) / 3)) ⌝ }
+    requires { ⌜ (apart (now spans) ≡ true) × (ask .low ≤ ask .lo) × (ask .lo < 8589934592) × (ask .hi < 8589934592) ⌝ }
+    ensures { λ _. ⌜ ((t : Table) (p : ℕ) → Asked t p (now (spans .entry)) (now (words .entry)) (ask .low) (ask .lo) (ask .hi) (ask .parts) → now (out .exit) ≡ put at (metBits t p (ask .lo) (ask .hi)) (now (out .entry))) ⌝ }
+{
+    let n = words.len() / 3;
+    let e = at + ask.parts;
+    put_flags(&mut out[at..e], words, n, spans, ask);
 }

@@ -1,0 +1,5 @@
+pub mod CutLaws
+pub mod PointPieces
+pub mod WordLaws
+pub mod MetLaws
+pub mod SearchLaws

@@ -1,0 +1,141 @@
+-- Laws for the code that writes pieces: what one cut, one row and the rows that are left stand for in words.
+-- Assumes nothing.
+use mathlib.Core.Path.{_≡_, refl, sym, ap, ap₂, _∙_, subst}
+use mathlib.Core.Bool.{Bool, true, false, cond}
+use mathlib.Core.List.{List, [], _∷_, _++_}
+use Prim.Native.Nat.{ℕ, zero, suc, _+_, _-_, _*_, _/_, _%_, _^_, _≤_, _<_, min}
+use native.Mathlib.Nat.{mul-le-mul-right, div-mul-le-self}
+use native.Mathlib.Omega.{arith}
+use lib.Dec.{leb, ltb, eqb}
+use lib.ListN.{length, getD, length-append}
+use borrow.Author.Tests.{le-leb, lt-leb, lt-ltb, le-ltb, eq-eqb, ne-eqb}
+use Rattle.model.specs.Table.{Range, span, pattern}
+use Rattle.model.specs.Raw.{rows}
+use Rattle.model.proofs.Lists.{none-left, one-left}
+use Rattle.arrays.specs.Put.{put}
+use Rattle.arrays.proofs.Written.{unwritten, as-written}
+use Rattle.parts.specs.Rows.{Row}
+use Rattle.parts.specs.Words.{rowAt, rowsAt}
+use Rattle.pieces.specs.Pieces.{Piece, piece}
+use Rattle.pieces.specs.Cuts.{leftOf, stepAt, cutLow, cutHigh, cutsFrom, piecesIn, rowPieces, allPieces, rangeWords, pieceWords, Bounded, Cuttable, rowOf, CutsFit}
+
+pub words-append : (xs ys : List Piece) → pieceWords (xs ++ ys) ≡ pieceWords xs ++ pieceWords ys
+unfolding pieceWords
+words-append [] ys = refl
+words-append (q ∷ xs) ys = ap (rangeWords (q .range) (q .part) ++_) (words-append xs ys) ∙ one (q .range)
+  where
+    one : (R : Range) → rangeWords R (q .part) ++ (pieceWords xs ++ pieceWords ys) ≡ (rangeWords R (q .part) ++ pieceWords xs) ++ pieceWords ys
+    one (span lo hi) = refl
+    one (pattern bits mask) = refl
+
+pub words-length : (qs : List Piece) → length (pieceWords qs) ≡ 3 * length qs
+unfolding pieceWords
+words-length [] = refl
+words-length (q ∷ qs) = one (q .range) (words-length qs)
+  where
+    one : (R : Range) → length (pieceWords qs) ≡ 3 * length qs → length (rangeWords R (q .part) ++ pieceWords qs) ≡ 3 * suc (length qs)
+    one (span lo hi) e = omega arith
+    one (pattern bits mask) e = omega arith
+
+-- ---- a row that is read
+
+pub row-is : (w b : List ℕ) (at kind lo hi before bin first last share : ℕ) → kind ≡ getD w at 0 → lo ≡ getD w (at + 1) 0 → hi ≡ getD w (at + 2) 0 → before ≡ getD w (at + 3) 0 → bin ≡ getD w (at + 4) 0
+    → first ≡ getD b (3 * bin) 0 → last ≡ getD b (3 * bin + 1) 0 → share ≡ getD b (3 * bin + 2) 0 → rowOf kind lo hi before bin first last share ≡ rowAt w b at
+row-is w b at kind lo hi before bin first last share ek el eh eb en ef es ep = rw (ef, es, ep, ek, el, eh, eb, en)
+
+-- ---- one cut
+
+pub product-most : (j top share x : ℕ) → j ≤ top → top * share ≤ x → j * share ≤ x
+product-most j top share x h k = omega (arith, mul-le-mul-right share h)
+
+module _ (lo hi before share top j : ℕ) where
+  pub high-inner : (z : ℕ) → j < top → z ≡ lo + ((j + 1) * share - before) - 1 → z ≡ cutHigh lo hi before share top j
+  high-inner z h e = e ∙ sym (ap (λ (b : Bool). cond b (cutLow lo before share (j + 1) - 1) hi) (lt-ltb j top h))
+
+  pub high-last : top ≤ j → hi ≡ cutHigh lo hi before share top j
+  high-last h = sym (ap (λ (b : Bool). cond b (cutLow lo before share (j + 1) - 1) hi) (le-ltb j top h))
+
+module _ (f : ℕ → ℕ) (a b k y : ℕ) (e : y ≡ f a) where
+  pub left-none : b < y → (at : ℕ) (l : List ℕ) → (at ≡ at + length (pieceWords (leftOf f a b k))) × (l ≡ put at (pieceWords (leftOf f a b k)) l)
+  unfolding pieceWords
+  left-none h at l = unwritten at (pieceWords (leftOf f a b k)) l (ap (λ (c : Bool). pieceWords (cond c (piece (span (f a) b) k ∷ []) [])) (lt-leb (f a) b (omega arith)))
+
+  pub left-words : y ≤ b → pieceWords (leftOf f a b k) ≡ y ∷ b ∷ k ∷ []
+  unfolding pieceWords
+  left-words h =
+      ap (λ (c : Bool). pieceWords (cond c (piece (span (f a) b) k ∷ []) [])) (le-leb (f a) b (omega arith))
+      ∙ ap (λ (x : ℕ). x ∷ b ∷ k ∷ []) (sym e)
+
+-- ---- the cuts of a row
+
+module _ (f : ℕ → ℕ) (lo hi before share first top j : ℕ) where
+  pub cuts-turn : (a b k : ℕ) → a ≡ cutLow lo before share j → b ≡ cutHigh lo hi before share top j → k ≡ first + j → j ≤ top
+      → pieceWords (cutsFrom f lo hi before share first top j (top + 1 - j)) ≡ pieceWords (leftOf f a b k) ++ pieceWords (cutsFrom f lo hi before share first top (j + 1) (top + 1 - (j + 1)))
+  unfolding cutsFrom
+  cuts-turn a b k ea eb ek h =
+      ap (λ (n : ℕ). pieceWords (cutsFrom f lo hi before share first top j n)) (one-left (top + 1) j (omega arith))
+      ∙ words-append (leftOf f (cutLow lo before share j) (cutHigh lo hi before share top j) (first + j)) (cutsFrom f lo hi before share first top (j + 1) (top + 1 - (j + 1)))
+      ∙ ap (_++ pieceWords (cutsFrom f lo hi before share first top (j + 1) (top + 1 - (j + 1)))) (sym same)
+    where
+      same : pieceWords (leftOf f a b k) ≡ pieceWords (leftOf f (cutLow lo before share j) (cutHigh lo hi before share top j) (first + j))
+      same =
+          ap (λ (x : ℕ). pieceWords (leftOf f x b k)) ea
+          ∙ ap (λ (x : ℕ). pieceWords (leftOf f (cutLow lo before share j) x k)) eb
+          ∙ ap (λ (x : ℕ). pieceWords (leftOf f (cutLow lo before share j) (cutHigh lo hi before share top j) x)) ek
+
+  pub cuts-end : top < j → pieceWords (cutsFrom f lo hi before share first top j (top + 1 - j)) ≡ []
+  unfolding cutsFrom pieceWords
+  cuts-end h = ap (λ (n : ℕ). pieceWords (cutsFrom f lo hi before share first top j n)) (none-left (top + 1) j (omega arith))
+
+-- ---- a row
+
+module _ (f : ℕ → ℕ) (kind lo hi before bin first last share from : ℕ) (start : from ≡ min (before / share) last) where
+  from-is : from ≡ stepAt before share last 0
+  from-is = start ∙ ap (λ (x : ℕ). min (x / share) last) (let z : before ≡ before + 0 = omega arith in z)
+
+  pub row-span : (top : ℕ) → kind ≡ 0 → top ≡ min ((before + (hi - lo)) / share) last
+      → pieceWords (rowPieces f (rowOf kind lo hi before bin first last share)) ≡ pieceWords (cutsFrom f lo hi before share first top from (top + 1 - from))
+  unfolding rowPieces
+  row-span top e t =
+      ap (λ (b : Bool). pieceWords (piecesIn f (rowOf kind lo hi before bin first last share) (cond b (span lo hi) (pattern lo hi)))) (eq-eqb kind 0 e)
+      ∙ ap₂ (λ (x y : ℕ). pieceWords (cutsFrom f lo hi before share first x y (x + 1 - y))) (sym t) (sym from-is)
+
+  pub row-pattern : (kind ≡ 0 → ⊥) → pieceWords (rowPieces f (rowOf kind lo hi before bin first last share)) ≡ lo ∷ hi ∷ (first + from + 65536) ∷ []
+  unfolding rowPieces pieceWords
+  row-pattern e =
+      ap (λ (b : Bool). pieceWords (piecesIn f (rowOf kind lo hi before bin first last share) (cond b (span lo hi) (pattern lo hi)))) (ne-eqb kind 0 e)
+      ∙ ap (λ (x : ℕ). lo ∷ hi ∷ (first + x + 65536) ∷ []) (sym from-is)
+
+  module _ (low : ℕ) (cut : Cuttable low (rowOf kind lo hi before bin first last share)) (e : kind ≡ 0) where
+    pub row-bounds : (low ≤ lo) × (lo ≤ hi) × (hi < 2 ^ 33)
+    row-bounds = subst (λ (b : Bool). Bounded low (cond b (span lo hi) (pattern lo hi))) (eq-eqb kind 0 e) (cut .bounds)
+
+    pub row-fits : (top : ℕ) → top ≡ min ((before + (hi - lo)) / share) last → CutsFit lo hi before share first top
+    row-fits top t =
+        let b = row-bounds in
+        let z : top ≤ (before + (hi - lo)) / share = omega arith in
+        record {
+          order = b .1;
+          high = b .2;
+          small = cut .before;
+          most = omega (arith, mul-le-mul-right share z, div-mul-le-self (before + (hi - lo)) share);
+          room = omega (arith, cut .room);
+        }
+
+-- ---- the rows
+
+module _ (f : ℕ → ℕ) (w b : List ℕ) (n i : ℕ) where
+  pub rows-turn : (r : Row) → r ≡ rowAt w b (5 * i) → i < n
+      → pieceWords (allPieces f (rowsAt w b (5 * i) (n - i))) ≡ pieceWords (rowPieces f r) ++ pieceWords (allPieces f (rowsAt w b (5 * (i + 1)) (n - (i + 1))))
+  unfolding rows allPieces
+  rows-turn r e h =
+      ap (λ (m : ℕ). pieceWords (allPieces f (rowsAt w b (5 * i) m))) (one-left n i h)
+      ∙ words-append (rowPieces f (rowAt w b (5 * i))) (allPieces f (rowsAt w b (5 * i + 5) (n - (i + 1))))
+      ∙ ap₂ (λ (x : Row) (a : ℕ). pieceWords (rowPieces f x) ++ pieceWords (allPieces f (rowsAt w b a (n - (i + 1))))) (sym e) (let z : 5 * i + 5 ≡ 5 * (i + 1) = omega arith in z)
+
+  pub rows-end : n ≤ i → pieceWords (allPieces f (rowsAt w b (5 * i) (n - i))) ≡ []
+  unfolding rows allPieces pieceWords
+  rows-end h = ap (λ (m : ℕ). pieceWords (allPieces f (rowsAt w b (5 * i) m))) (none-left n i h)
+
+pub rows-start : (f : ℕ → ℕ) (w b : List ℕ) (n : ℕ) → pieceWords (allPieces f (rowsAt w b (5 * 0) (n - 0))) ≡ pieceWords (allPieces f (rowsAt w b 0 n))
+rows-start f w b n = ap₂ (λ (x y : ℕ). pieceWords (allPieces f (rowsAt w b x y))) (let z : 5 * 0 ≡ 0 = omega arith in z) (let z : n - 0 ≡ n = omega arith in z)

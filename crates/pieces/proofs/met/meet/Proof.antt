@@ -1,0 +1,78 @@
+use mathlib.Core.Path.{_≡_, refl, sym, _∙_}
+use Prim.Native.Nat.{_-_, _*_, _≤_}
+use native.Mathlib.Nat.{zero-add}
+use native.Mathlib.Omega.{arith}
+use lib.ListN.{length}
+use borrow.Author.Needs.{needs}
+use Rattle.spans.specs.Point.{freeValue}
+use Rattle.parts.specs.Rows.{raiseAll}
+use Rattle.parts.proofs.RaiseLaws.{row-in}
+use Rattle.pieces.specs.Pieces.{pieceAt, piecesAt}
+use Rattle.pieces.specs.Met.{metParts, PartBelow}
+use Rattle.pieces.proofs.SearchLaws.{met-start, met-turn, met-end}
+use Rattle.pieces.proofs.met.meet.Statement.{statement}
+use Rattle.pieces.proofs.met.meet.Tie as tie
+
+abbrev Inv-loop : tie.InvT-loop
+Inv-loop flags₀ words n spans ask from i₀ flags i =
+    (i ≤ n) × (length flags ≡ length flags₀) × (raiseAll (metParts (freeValue spans (ask .low)) (ask .lo) (ask .hi) (piecesAt words (3 * i) (n - i))) flags ≡ raiseAll (metParts (freeValue spans (ask .low)) (ask .lo) (ask .hi) (piecesAt words 0 n)) flags₀) × (from ≡ freeValue spans (ask .low) (ask .lo))
+
+abbrev μ-loop : tie.MeasureT-loop
+μ-loop flags₀ words n spans ask from i₀ flags i = n - i
+
+free-value-requires : tie.Need-free-value-requires Inv-loop μ-loop
+free-value-requires c κs = (c .before .before .before .pre .0 .1, omega arith, omega arith)
+
+loop-holds : tie.Need-loop-holds Inv-loop μ-loop
+loop-holds c =
+    let a = c .before .before .before .before .args in
+    (omega arith, refl, met-start (freeValue (a .spans .now) (a .ask .low)) (a .ask .lo) (a .ask .hi) (a .words .now) (a .n) (a .flags .now), c .free-value .ensures .0)
+
+mul-meet-one : tie.Need-mul-meet-one Inv-loop μ-loop
+mul-meet-one c = omega arith
+
+meet-one-requires : tie.Need-meet-one-requires Inv-loop μ-loop
+meet-one-requires c κs =
+    let a = c .before .before .before .before .before .before .before .args in
+    let q = c .before .before .before .before .before .before .before .pre in
+    let l = c .before .before .loop in (
+      (omega arith, l .inv .3, q .0 .1, omega arith, omega arith, omega arith),
+      rw (l .inv .1) (rw zero-add at (row-in (PartBelow (length (a .flags .now))) (pieceAt (a .words .now)) 3 0 (a .n) (q .1) (l .i) (omega arith))),
+    )
+
+add-i : tie.Need-add-i Inv-loop μ-loop
+add-i c = omega arith
+
+loop-less : tie.Need-loop-less Inv-loop μ-loop
+loop-less c = omega arith
+
+loop-again : tie.Need-loop-again Inv-loop μ-loop
+loop-again c =
+    let a = c .before .before .before .before .before .before .before .before .before .before .args in
+    let l = c .before .before .before .before .before .loop in
+    (omega arith, search needs, met-turn (freeValue (a .spans .now) (a .ask .low)) (a .ask .lo) (a .ask .hi) (a .words .now) (a .n) (l .i) (l .flags) _ (omega arith) (c .before .before .meet-one .ensures) ∙ l .inv .2, l .inv .3)
+
+same-length : tie.Need-same-length Inv-loop μ-loop
+same-length c = c .before .loop .inv .1
+
+returns : tie.Need-returns Inv-loop μ-loop
+returns c =
+    let a = c .before .before .before .before .before .before .args in
+    let l = c .before .loop in
+    sym (met-end (freeValue (a .spans .now) (a .ask .low)) (a .ask .lo) (a .ask .hi) (a .words .now) (a .n) (l .i) (l .flags) (omega arith)) ∙ l .inv .2
+
+pub meet-spec : {M : Type 1} → statement M
+meet-spec =
+    tie.close
+    (tie.spec
+    Inv-loop
+    μ-loop
+    free-value-requires
+    loop-holds
+    mul-meet-one
+    meet-one-requires
+    add-i
+    loop-less
+    loop-again
+    same-length
+    returns)
