@@ -35,10 +35,6 @@ fn guard_bits(guard: Option<u8>) -> GuardBits {
     guard.map_or(0, |bit| 1 << bit)
 }
 
-fn holds(known: u64, guard: GuardBits) -> bool {
-    known & guard == guard
-}
-
 /// A register word to raise: of a part, or of an illegal or default bin.
 #[derive(Clone, Copy)]
 struct Raise {
@@ -209,6 +205,30 @@ struct Hit {
     first: usize,
 }
 
+/// What a sample writes to, and its guard bits that are 1 and known.
+struct Taking<'a> {
+    register: &'a mut [u32],
+    report: &'a mut [u32],
+    known: u64,
+}
+
+impl Taking<'_> {
+    #[inline]
+    fn holds(&self, guard: GuardBits) -> bool {
+        self.known & guard == guard
+    }
+
+    #[inline]
+    fn raise(&mut self, raise: &Raise) {
+        self.register[raise.word as usize] += 1;
+    }
+
+    #[inline]
+    fn report(&mut self, raise: &Raise) {
+        self.report[raise.number as usize] = 1;
+    }
+}
+
 /// Sampling.
 impl Compiled {
     pub fn read(bytes: &[u8]) -> Result<Compiled, Refusal> {
@@ -247,38 +267,40 @@ impl Compiled {
         if number != 0 {
             return number;
         }
-        let register = &mut register[..self.words];
-        let report = &mut report[..self.illegal_places];
-        report.fill(0);
+        report[..self.illegal_places].fill(0);
         register[SAMPLES] += 1;
         let pair = |low: u32, high: u32| u64::from(low) | u64::from(high) << 32;
-        let known = pair(sample[0] & !sample[2], sample[1] & !sample[3]);
+        let taking = &mut Taking {
+            register: &mut register[..self.words],
+            report: &mut report[..self.illegal_places],
+            known: pair(sample[0] & !sample[2], sample[1] & !sample[3]),
+        };
         let points = self
             .points
             .iter()
             .zip(sample[GUARD_WORDS..].chunks_exact(2));
         for (index, ((point, words), hit)) in points.zip(&mut self.hits).enumerate() {
             hit.count = 0;
-            if !holds(known, point.guard) {
+            if !taking.holds(point.guard) {
                 continue;
             }
             if words[1] != 0 {
-                register[self.unknown_at + index] += 1;
-                point.forget_runs(register);
+                taking.register[self.unknown_at + index] += 1;
+                point.forget_runs(taking.register);
                 continue;
             }
             let value = words[0] ^ point.sign;
             let cell = &self.cells[point.first_cell + point.search.cell(value)];
             let raises = &self.raises[cell.first as usize..cell.end as usize];
-            point.take_value(register, report, known, value, cell, raises, hit);
+            point.take_value(taking, value, cell, raises, hit);
             if !point.transitions.is_empty() {
                 let masks = &self.masks[cell.masks as usize..][..point.run_words];
                 let scratch = &mut self.scratch;
-                point.take_step(register, report, known, value, cell, masks, scratch);
+                point.take_step(taking, value, cell, masks, scratch);
             }
         }
         for cross in &self.crosses {
-            cross.take(register, report, known, &self.hits);
+            cross.take(taking, &self.hits);
         }
         0
     }
@@ -290,7 +312,7 @@ impl Search {
         match self {
             Search::Direct(cells) => cells[value as usize] as usize,
             Search::Dealt { factor, last } => {
-                let bin = (u128::from(value) * u128::from(*factor) >> 64) as u32;
+                let bin = ((u128::from(value) * u128::from(*factor)) >> 64) as u32;
                 bin.min(*last) as usize
             }
             Search::Marked {
@@ -317,12 +339,9 @@ impl Search {
 
 impl Point {
     #[inline]
-    #[allow(clippy::too_many_arguments)]
     fn take_value(
         &self,
-        register: &mut [u32],
-        report: &mut [u32],
-        known: u64,
+        taking: &mut Taking,
         value: u32,
         cell: &Cell,
         raises: &[Raise],
@@ -330,16 +349,16 @@ impl Point {
     ) {
         if cell.removed {
             for raise in raises {
-                if holds(known, raise.guard) {
-                    register[raise.word as usize] += 1;
-                    report[raise.number as usize] = 1;
+                if taking.holds(raise.guard) {
+                    taking.raise(raise);
+                    taking.report(raise);
                 }
             }
             return;
         }
         for raise in raises {
-            if holds(known, raise.guard) {
-                register[raise.word as usize] += 1;
+            if taking.holds(raise.guard) {
+                taking.raise(raise);
                 hit.add(raise.number);
             }
         }
@@ -347,14 +366,16 @@ impl Point {
         if !self.patterns.is_empty() {
             self.patterns.each_fitting(value, |raise| {
                 listed = true;
-                if holds(known, raise.guard) && !hit.has(raise.number) {
-                    register[raise.word as usize] += 1;
+                if taking.holds(raise.guard) && !hit.has(raise.number) {
+                    taking.raise(&raise);
                     hit.add(raise.number);
                 }
             });
         }
-        if let (Some(default), false) = (self.default, listed) {
-            register[default.word as usize] += u32::from(holds(known, default.guard));
+        if let (Some(default), false) = (&self.default, listed) {
+            if taking.holds(default.guard) {
+                taking.raise(default);
+            }
         }
     }
 
@@ -365,12 +386,9 @@ impl Point {
     }
 
     #[inline]
-    #[allow(clippy::too_many_arguments)]
     fn take_step(
         &self,
-        register: &mut [u32],
-        report: &mut [u32],
-        known: u64,
+        taking: &mut Taking,
         value: u32,
         cell: &Cell,
         masks: &[u32],
@@ -378,8 +396,8 @@ impl Point {
     ) {
         if self.step_patterns.is_empty() {
             match cell.still {
-                true => self.forget_runs(register),
-                false => self.move_runs(register, report, known, masks),
+                true => self.forget_runs(taking.register),
+                false => self.move_runs(taking, masks),
             }
             return;
         }
@@ -388,16 +406,16 @@ impl Point {
         self.step_patterns.each_fitting(value, |(first, end)| {
             own[first as usize..end as usize].fill(u32::MAX);
         });
-        self.move_runs(register, report, known, own);
+        self.move_runs(taking, own);
     }
 
     #[inline]
-    fn move_runs(&self, register: &mut [u32], report: &mut [u32], known: u64, masks: &[u32]) {
+    fn move_runs(&self, taking: &mut Taking, masks: &[u32]) {
         let mut taken = 0;
         for bin in &self.transitions {
             let mut matched = 0;
             for sequence in &bin.sequences {
-                let run = &mut register[sequence.first..sequence.first + sequence.words];
+                let run = &mut taking.register[sequence.first..sequence.first + sequence.words];
                 matched |= sequence.move_run(run, &masks[sequence.mask..][..sequence.words]);
             }
             let raised = match bin.kind {
@@ -411,10 +429,10 @@ impl Point {
                     0
                 }
             };
-            if raised != 0 && holds(known, bin.raise.guard) {
-                register[bin.raise.word as usize] += 1;
+            if raised != 0 && taking.holds(bin.raise.guard) {
+                taking.raise(&bin.raise);
                 if bin.kind == Kind::Illegal {
-                    report[bin.raise.number as usize] = 1;
+                    taking.report(&bin.raise);
                 }
             }
         }
@@ -465,8 +483,8 @@ impl Hit {
 
 impl Cross {
     #[inline]
-    fn take(&self, register: &mut [u32], report: &mut [u32], known: u64, hits: &[Hit]) {
-        if !holds(known, self.guard) {
+    fn take(&self, taking: &mut Taking, hits: &[Hit]) {
+        if !taking.holds(self.guard) {
             return;
         }
         let count = |&point: &usize| hits[point].count;
@@ -479,21 +497,21 @@ impl Cross {
                 let number =
                     |number, (&point, size): (&usize, &usize)| number * size + hits[point].first;
                 self.hit(
-                    register,
+                    taking.register,
                     self.points.iter().zip(&self.sizes).fold(0, number),
                 )
             }
-            _ => self.take_from(register, hits, 0, 0),
+            _ => self.take_from(taking.register, hits, 0, 0),
         };
         let mut bins = raised & (TAKEN - 1);
         while bins != 0 {
             let nth = bins.trailing_zeros();
             bins &= bins - 1;
             let bin = &self.bins[nth as usize];
-            if holds(known, bin.guard) {
-                register[bin.word as usize] += 1;
+            if taking.holds(bin.guard) {
+                taking.raise(bin);
                 if self.illegal >> nth & 1 == 1 {
-                    report[bin.number as usize] = 1;
+                    taking.report(bin);
                 }
             }
         }

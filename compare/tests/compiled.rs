@@ -8,7 +8,7 @@ use compare::register::Model;
 use compare::table;
 use std::collections::BTreeMap;
 
-const TABLES: usize = 12_000;
+const TABLES: usize = 8_000;
 const SAMPLES: usize = 24;
 
 #[test]
@@ -74,9 +74,9 @@ fn compiled_and_register_agree() {
         wide_patterns += usize::from(drawn.value_bins.iter().any(wide));
     }
     println!("{numbers:?}, {reported} reported, {runs} runs, {wide_patterns} wide patterns");
-    assert!(numbers[&0] > 200_000);
+    assert!(numbers[&0] > 100_000);
     for number in [7, 9, 10, 11, 12, 13] {
         assert!(numbers.get(&number).is_some_and(|&n| n > 50), "{number}");
     }
-    assert!(reported > 10_000 && runs > 1_000 && wide_patterns > 300);
+    assert!(reported > 10_000 && runs > 1_000 && wide_patterns > 500);
 }

@@ -137,7 +137,7 @@ fn long_sequences() -> Shape {
         .map(|i| Step::new(&[value(i % 2), value(7)]))
         .collect();
     let bins = (0..16)
-        .map(|i| TransitionBin::cover(i % 4, &[steps.clone()]))
+        .map(|i| TransitionBin::cover(i % 4, std::slice::from_ref(&steps)))
         .collect();
     let table = Table::new(vec![Point::new(8); 4]).transitions(bins);
     Shape::new("16 sequences of 16", table, [0, 1, 0, 1, 7, 1, 0, 7, 0, 9])
