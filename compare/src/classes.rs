@@ -1,7 +1,7 @@
 //! Which hard cases a table has, so that a comparison can say that it met them.
 
 use crate::builder::{Form, Kind, Range, Select, Table, ValueBin};
-use crate::table::Type;
+use crate::table::{auto_bins, Type};
 use std::collections::BTreeSet;
 
 #[derive(Clone, Copy, Debug, PartialEq, Eq, PartialOrd, Ord)]
@@ -41,6 +41,8 @@ pub enum Class {
     LeafAtExcluded,
     /// One value off.
     LeafOffExcluded,
+    /// An `intersect` leaf that ends where values dealt go over to the next bin.
+    LeafAtPart,
     /// Values dealt over more bins than there are.
     MoreBinsThanValues,
     /// Values dealt, some of them listed more than once.
@@ -50,7 +52,7 @@ pub enum Class {
 use Class::*;
 
 impl Class {
-    pub const ALL: [Class; 20] = [
+    pub const ALL: [Class; 21] = [
         OverlappingBins,
         OverlappingRanges,
         UnorderedPerValue,
@@ -69,6 +71,7 @@ impl Class {
         LeafOffBin,
         LeafAtExcluded,
         LeafOffExcluded,
+        LeafAtPart,
         MoreBinsThanValues,
         RepeatedValues,
     ];
@@ -126,6 +129,43 @@ fn point_spans(table: &Table, point: usize, excluded: bool) -> Vec<Span> {
         .filter(is_wanted)
         .flat_map(spans)
         .collect()
+}
+
+/// Where values dealt go over to the next bin, as auto bins too: the first value of each
+/// bin but the first, in each span.
+pub(crate) fn dealt_borders(table: &Table, point: usize) -> Vec<i64> {
+    let mut borders = Vec::new();
+    let mut deal = |spans: &[Span], bins: i64| {
+        let each = (spans.iter().map(|s| s.1 - s.0 + 1).sum::<i64>() / bins).max(1);
+        let mut position = 0;
+        for &(lo, hi) in spans {
+            let next = (position / each + 1..bins).map(|bin| lo + bin * each - position);
+            borders.extend(next.take_while(|&first| first <= hi));
+            position += hi - lo + 1;
+        }
+    };
+    let bins = || table.value_bins.iter();
+    for bin in bins().filter(|bin| bin.point as usize == point) {
+        if let Form::Number(number) = bin.form {
+            deal(&spans(bin), number.into());
+        }
+    }
+    let record = &table.points[point];
+    let is_auto = !bins()
+        .any(|bin| bin.point as usize == point && matches!(bin.kind, Kind::Cover | Kind::Default))
+        && !table
+            .transition_bins
+            .iter()
+            .any(|bin| bin.point as usize == point && bin.kind == Kind::Cover);
+    if is_auto {
+        let ty = Type {
+            width: record.width,
+            signed: record.signed,
+        };
+        let bins = auto_bins(record.width, record.auto_max);
+        deal(&[(ty.lowest(), ty.highest())], bins as i64);
+    }
+    borders
 }
 
 fn of_point(table: &Table, point: usize, found: &mut BTreeSet<Class>) {
@@ -220,6 +260,10 @@ fn of_leaves(table: &Table, points: &[u8], select: &Select, found: &mut BTreeSet
                 (false, LeafAtBin, LeafOffBin),
                 (true, LeafAtExcluded, LeafOffExcluded),
             ];
+            let borders = dealt_borders(table, point);
+            if borders.iter().any(|&first| lo == first || hi == first - 1) {
+                found.insert(LeafAtPart);
+            }
             for (excluded, at, off) in sides {
                 let spans = point_spans(table, point, excluded);
                 let ends = || spans.iter().flat_map(|&(a, b)| [a, b]);

@@ -6,6 +6,7 @@ use super::{at_least, guard, listed_values, point_type, weight, Rng};
 use crate::builder::{
     value, Cross, CrossBin, Form, Kind, Point, Range, Select, Step, Table, TransitionBin, ValueBin,
 };
+use crate::classes::dealt_borders;
 use crate::table::Type;
 
 /// One or two tangled points, one or two small ones, and mostly crosses.
@@ -205,7 +206,12 @@ fn deep_cross(rng: &mut Rng, table: &Table) -> Cross {
     rng.shuffle(&mut points);
     let borders: Vec<Vec<i64>> = points
         .iter()
-        .map(|&point| listed_values(table, point.into()))
+        .map(|&point| {
+            let mut values = listed_values(table, point.into());
+            let dealt = dealt_borders(table, point.into());
+            values.extend(dealt.iter().flat_map(|&first| [first - 1, first]));
+            values
+        })
         .collect();
     let bins = (0..1 + rng.below(3)).map(|_| {
         let kind = *rng.pick(&[Kind::Cover, Kind::Cover, Kind::Ignore, Kind::Illegal]);
