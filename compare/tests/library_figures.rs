@@ -11,7 +11,7 @@ use compare::random::{self, Caller, Rng};
 use compare::table::{self, Layout};
 use std::collections::BTreeMap;
 
-const TABLES: usize = 1_600;
+const TABLES: usize = 1_000;
 
 /// What the tables reached, to show that the comparison is not hollow.
 #[derive(Default, Debug)]
