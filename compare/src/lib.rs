@@ -5,6 +5,8 @@
 //! * [`register`] is the direct sampler over register words.
 //! * [`book`] keeps only the accepted samples and recomputes everything from them.
 //! * [`calls`] names the calls, so that register and book can be given the same list.
+//! * [`classes`] says which hard cases a table has.
+//! * [`compiled`] is a table turned once into what samples fastest.
 //! * `library` calls the library itself (feature `library`).
 //! * [`replay`] says what the program `replay` writes for a table and a log.
 //! * [`random`] draws tables, damaged tables, call lists and foreign registers.
@@ -12,6 +14,8 @@
 pub mod book;
 pub mod builder;
 pub mod calls;
+pub mod classes;
+pub mod compiled;
 #[cfg(feature = "library")]
 pub mod library;
 pub mod random;

@@ -8,6 +8,9 @@ use crate::calls::Call;
 use crate::table::{self, Layout, Type};
 use std::collections::VecDeque;
 
+mod tangled;
+pub use tangled::tangled;
+
 /// The seed when the environment names none.
 pub const DEFAULT_SEED: u64 = 0x0F10_C0DE_5EED_0001;
 
@@ -92,7 +95,8 @@ pub fn table(rng: &mut Rng) -> Table {
     loop {
         let draft = match rng.below(100) {
             0..=3 => near_limit(rng),
-            4..=33 => crossed(rng),
+            4..=28 => crossed(rng),
+            29..=53 => tangled(rng),
             _ => small(rng),
         };
         match table::check(&draft.bytes()) {

@@ -1287,7 +1287,7 @@ fn after_removed(removed: &[(i64, i64)], value: i64) -> i64 {
     }
 }
 
-fn range_left(removed: &[(i64, i64)], range: &Range, lo: i64, hi: i64) -> bool {
+pub(crate) fn range_left(removed: &[(i64, i64)], range: &Range, lo: i64, hi: i64) -> bool {
     match *range {
         Range::Span(first, last) => span_left(removed, (first.max(lo), last.min(hi))),
         Range::Pattern(bits, mask) => {

@@ -4,6 +4,7 @@
 //! answers, every register word (those beyond too) and every report word.
 
 use compare::calls::{self, Answer, Call, Outcome, UNTOUCHED};
+use compare::classes::{classes, Class};
 use compare::random::{self, Caller, Rng};
 use compare::{hex, table};
 use std::collections::BTreeMap;
@@ -21,6 +22,8 @@ struct Reached {
     item_figures: usize,
     group_figures: usize,
     refused_tables: usize,
+    /// Lists on a table of the class in which a sample was accepted.
+    classes: BTreeMap<Class, usize>,
 }
 
 /// Both take the call; the answer, or a panic that shows everything.
@@ -77,6 +80,7 @@ fn run_list(rng: &mut Rng, list: usize, reached: &mut Reached) {
         _ => 3 + rng.below(9),
     };
     let mut caller = Caller::new(&drawn);
+    let samples_before = reached.samples;
     for _ in 0..length {
         let call = caller.call(rng);
         if rng.chance(4) {
@@ -94,6 +98,11 @@ fn run_list(rng: &mut Rng, list: usize, reached: &mut Reached) {
         let before = words.clone();
         let outcome = same(&bytes, &mut words, &call, list);
         reached.note(&call, &before, &outcome);
+    }
+    if reached.samples > samples_before {
+        for class in classes(&drawn) {
+            *reached.classes.entry(class).or_default() += 1;
+        }
     }
 }
 
@@ -116,4 +125,8 @@ fn call_lists_agree() {
     assert!(reached.near_last_sample > 200);
     assert!(reached.item_figures > 1_000 && reached.group_figures > 1_000);
     assert!(reached.refused_tables > 5_000);
+    for class in Class::ALL {
+        let met = reached.classes.get(&class).copied().unwrap_or(0);
+        assert!(met > LISTS / 100, "{class:?} in only {met} lists");
+    }
 }

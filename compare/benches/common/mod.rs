@@ -1,8 +1,19 @@
-//! Tables of three sizes, and a stopwatch.
+//! Tables of three sizes, tables of other shapes, and a stopwatch.
+//!
+//! The library keeps nothing between calls, so neither may what it is measured
+//! against: the second program (`register`, `table`) checks and decodes the table
+//! at every call too. It does so as plain Rust would: records in vectors, excluded
+//! spans sorted, joined and halved, products as sets of bits, of which a sample
+//! looks only at those that are hit. The compiled sampler (`compiled`) decodes the
+//! table once, before the clock starts, and is what many samples could cost.
+#![allow(dead_code)]
+
+pub mod shapes;
 
 use compare::builder::{
     value, Cross, Form, Kind, Point, Range, Select, Step, Table, TransitionBin, ValueBin,
 };
+use shapes::Shape;
 use std::time::Instant;
 
 /// About 600 bytes: 3 points, 12 bins, a sequence, a cross; some 90 counters.
@@ -78,42 +89,160 @@ pub fn largest() -> Table {
     table
 }
 
-/// How many rounds each measurement has, and how long the library's part of one
-/// takes, if a single pass is not longer. Short rounds are seldom disturbed.
-const ROUNDS: usize = 50;
-const ROUND_NANOSECONDS: f64 = 2_000_000.0;
+/// Seconds that a single call may take.
+const PATIENCE: f64 = 60.0;
 
-/// Nanoseconds of one call by the library and by the second program, the smallest
-/// and the largest of the rounds.
-pub struct Times {
-    pub library: (f64, f64),
-    pub second: (f64, f64),
-}
-
-/// Measures both in turn: each round times some passes of `pass` calls by the
-/// library, then as many by the second program, so that whatever else the machine
-/// does meets both.
-pub fn interleaved(
-    pass: usize,
-    mut library: impl FnMut(usize),
-    mut second: impl FnMut(usize),
-) -> Times {
-    // Warms up, and says how many passes make a round.
-    nanoseconds(pass, &mut second);
-    let one = nanoseconds(pass, &mut library) * pass as f64;
-    let calls = pass * (ROUND_NANOSECONDS / one).max(1.0) as usize;
-    let mut times = Times {
-        library: (f64::INFINITY, 0.0),
-        second: (f64::INFINITY, 0.0),
-    };
-    for _ in 0..ROUNDS {
-        widen(&mut times.library, nanoseconds(calls, &mut library));
-        widen(&mut times.second, nanoseconds(calls, &mut second));
+/// Shapes that grow. `measured` prints a line and says the library's seconds of one
+/// call; a shape that would take it too long, by the time of the one before and
+/// this power of the count, is left out.
+pub fn growing(
+    counts: &[i64],
+    power: i32,
+    shape: impl Fn(i64) -> Shape,
+    mut measured: impl FnMut(&Shape) -> f64,
+) {
+    let mut before: Option<(i64, f64)> = None;
+    for &count in counts {
+        let shape = shape(count);
+        let grown =
+            |(fewer, seconds): (i64, f64)| seconds * (count as f64 / fewer as f64).powi(power);
+        match before.map(grown) {
+            Some(seconds) if seconds > PATIENCE => {
+                println!(
+                    "{:<24} not run: it would take the library some {seconds:.0} s",
+                    shape.name
+                )
+            }
+            _ => before = Some((count, measured(&shape))),
+        }
     }
-    times
 }
 
-fn nanoseconds(calls: usize, call: &mut impl FnMut(usize)) -> f64 {
+/// The growing shapes of all benches.
+pub fn grown(measured: &mut dyn FnMut(&Shape) -> f64) {
+    growing(&[30, 500], 2, shapes::patterns, &mut *measured);
+    growing(&[60, 225, 450, 900], 2, shapes::touching_spans, measured);
+}
+
+/// Most rounds of a measurement, and the time that the library's part of all of
+/// them may take: a call that takes seconds is timed once.
+const ROUNDS: usize = 50;
+const BUDGET_NANOSECONDS: f64 = 1_000_000_000.0;
+/// How long the library's part of a round takes, if a single pass is not longer.
+/// Short rounds are seldom disturbed.
+const ROUND_NANOSECONDS: f64 = 2_000_000.0;
+/// Least calls of the second program and of the compiled sampler in a round.
+const FEW: usize = 10;
+const MANY: usize = 1_000;
+
+/// Nanoseconds of one call, the smallest and the largest of the rounds.
+#[derive(Clone, Copy)]
+pub struct Extent {
+    pub smallest: f64,
+    pub largest: f64,
+}
+
+impl Extent {
+    fn of(calls: usize, call: &mut dyn FnMut(usize)) -> Extent {
+        let time = nanoseconds(calls, call);
+        Extent {
+            smallest: time,
+            largest: time,
+        }
+    }
+
+    fn with(self, other: Extent) -> Extent {
+        Extent {
+            smallest: self.smallest.min(other.smallest),
+            largest: self.largest.max(other.largest),
+        }
+    }
+
+    fn micros(&self) -> String {
+        let micros = |time: f64| match time / 1_000.0 {
+            tiny if tiny < 0.9995 => format!("{tiny:.3}"),
+            small if small < 99.95 => format!("{small:.2}"),
+            large => format!("{large:.0}"),
+        };
+        format!("{} .. {}", micros(self.smallest), micros(self.largest))
+    }
+}
+
+/// Times of one call by the library, by the second program, and by the compiled
+/// sampler where it takes part.
+pub struct Times {
+    pub rounds: usize,
+    pub library: Extent,
+    pub second: Extent,
+    pub compiled: Option<Extent>,
+}
+
+/// Calls that are measured in turn; each is given the number of the call.
+pub struct Contest<'a> {
+    /// Calls that belong together, as the samples of a list.
+    pub pass: usize,
+    pub library: Box<dyn FnMut(usize) + 'a>,
+    pub second: Box<dyn FnMut(usize) + 'a>,
+    pub compiled: Option<Box<dyn FnMut(usize) + 'a>>,
+    /// Fails if they did not all do the same; asked when they took as many calls.
+    pub agree: Box<dyn Fn() + 'a>,
+}
+
+impl Contest<'_> {
+    /// Measures all in turn: each round times some passes by the library, then as
+    /// many by the second program, and ten times as many by the compiled sampler,
+    /// so that whatever else the machine does meets all. A first call and a first
+    /// pass warm up, and say how many passes make a round and how many rounds there
+    /// are. Where a pass would take longer than all rounds may, a pass is one call,
+    /// and where a call would, the library's first is its only one.
+    pub fn run(mut self) -> Times {
+        let first = self.round(1, 1, 1);
+        (self.agree)();
+        let one = first.library.smallest;
+        if 2.0 * one > BUDGET_NANOSECONDS {
+            return self.without_library(first.library);
+        }
+        let pass = match one * self.pass as f64 > BUDGET_NANOSECONDS / 2.0 {
+            true => 1,
+            false => self.pass,
+        };
+        let warm = self.round(pass, pass, pass);
+        (self.agree)();
+        let whole = warm.library.smallest * pass as f64;
+        let calls = pass * (ROUND_NANOSECONDS / whole).max(1.0) as usize;
+        let rounds = BUDGET_NANOSECONDS / (calls as f64 * warm.library.smallest);
+        let mut rounds = (0..(rounds as usize).clamp(1, ROUNDS))
+            .map(|_| self.round(calls, calls.max(FEW), (10 * calls).max(MANY)));
+        let first = rounds.next().expect("a round");
+        rounds.fold(first, Times::with)
+    }
+
+    /// Rounds of the others, the library's time being known.
+    fn without_library(mut self, library: Extent) -> Times {
+        let mut rounds = (0..FEW).map(|_| Times {
+            library,
+            ..self.round(0, FEW, MANY)
+        });
+        let first = rounds.next().expect("a round");
+        let times = rounds.fold(first, Times::with);
+        Times { rounds: 1, ..times }
+    }
+
+    /// So many calls by each.
+    fn round(&mut self, library: usize, second: usize, compiled: usize) -> Times {
+        Times {
+            rounds: 1,
+            library: Extent::of(library, &mut self.library),
+            second: Extent::of(second, &mut self.second),
+            compiled: self
+                .compiled
+                .as_mut()
+                .map(|call| Extent::of(compiled, call)),
+        }
+    }
+}
+
+fn nanoseconds(calls: usize, call: &mut dyn FnMut(usize)) -> f64 {
     let start = Instant::now();
     for index in 0..calls {
         call(index);
@@ -121,26 +250,46 @@ fn nanoseconds(calls: usize, call: &mut impl FnMut(usize)) -> f64 {
     start.elapsed().as_nanos() as f64 / calls as f64
 }
 
-fn widen((smallest, largest): &mut (f64, f64), time: f64) {
-    *smallest = smallest.min(time);
-    *largest = largest.max(time);
-}
-
-/// What the lines of [`Times::line`] have; `size` is what stands after the name.
-pub fn heading(size: &str) -> String {
+/// What the lines of [`Times::line`] have; `what` is timed, `size` stands after the name.
+pub fn heading(what: &str, size: &str, compiled: bool) -> String {
+    let compiled = match compiled {
+        true => format!(" {:>20}", "compiled"),
+        false => String::new(),
+    };
     format!(
-        "Nanoseconds of one call: the smallest and the largest of {ROUNDS} rounds, in each of which both programs ran in turn.\n\
-         The ratio is that of the smallest.\n\
-         {:<10} {size:>7} {:>24} {:>24} {:>7}",
-        "table", "library", "second program", "ratio"
+        "Microseconds of {what}: the smallest and the largest of the rounds, in each of which the programs ran in turn.\n\
+         The ratio is that of the smallest, library over second program.\n\
+         {:<24} {size:>7} {:>24} {:>24} {:>8}{compiled} {:>7}",
+        "table", "library", "second program", "ratio", "rounds"
     )
 }
 
 impl Times {
+    fn with(self, other: Times) -> Times {
+        let both = self.compiled.zip(other.compiled);
+        Times {
+            rounds: self.rounds + other.rounds,
+            library: self.library.with(other.library),
+            second: self.second.with(other.second),
+            compiled: both.map(|(own, other)| own.with(other)),
+        }
+    }
+
+    /// The library's least time of one call, in seconds.
+    pub fn seconds(&self) -> f64 {
+        self.library.smallest / 1e9
+    }
+
     pub fn line(&self, name: &str, size: usize) -> String {
-        let range = |(smallest, largest): (f64, f64)| format!("{smallest:.0} .. {largest:.0}");
-        let ratio = self.library.0 / self.second.0;
-        let (library, second) = (range(self.library), range(self.second));
-        format!("{name:<10} {size:>7} {library:>24} {second:>24} {ratio:>7.2}")
+        let ratio = self.library.smallest / self.second.smallest;
+        let (library, second) = (self.library.micros(), self.second.micros());
+        let compiled = match &self.compiled {
+            Some(range) => format!(" {:>20}", range.micros()),
+            None => String::new(),
+        };
+        let rounds = self.rounds;
+        format!(
+            "{name:<24} {size:>7} {library:>24} {second:>24} {ratio:>8.2}{compiled} {rounds:>7}"
+        )
     }
 }
