@@ -1,19 +1,19 @@
 -- What an accepted table grants: its bins fit, there is room for its rows, and these are the rows of the point.
 -- Assumes nothing.
 use mathlib.Core.Path.{_≡_, refl, sym, ap, ap₂, _∙_, subst}
-use mathlib.Core.Bool.{Bool, true, false, not, _&&_, _||_, cond}
-use mathlib.Core.List.{List, [], _∷_, _++_, map}
-use Prim.Native.Nat.{ℕ, zero, suc, _+_, _-_, _*_, _^_, _≤_, _<_}
+use mathlib.Core.Bool.{Bool, true, false, not, _||_, cond}
+use mathlib.Core.List.{List, [], _∷_, _++_}
+use Prim.Native.Nat.{ℕ, zero, suc, _+_, _-_, _*_, _≤_, _<_}
 use native.Mathlib.Omega.{arith}
 use lib.Dec.{leb, eqb}
 use lib.ListN.{length, getD, length-map}
 use lib.Pow.{pow-mono}
 use borrow.Author.Tests.{leb-true, le-leb, ne-eqb, eqb-true}
-use Rattle.model.specs.Lists.{upFrom, all, oneOf, asBit, sumOf, within}
+use Rattle.model.specs.Lists.{all, oneOf, asBit, sumOf, within}
 use Rattle.model.specs.Table.{Point, Form, single, perValue, fixed, Range, span, pattern, ValueBin, Table, isCover, noValueBin}
 use Rattle.model.specs.Values.{lowest}
 use Rattle.model.specs.Ranges.{sizes}
-use Rattle.model.specs.Counters.{CoverBin, noCoverBin, pointAt, valueBinAt, distributed, pointCounters}
+use Rattle.model.specs.Counters.{noCoverBin, pointAt, valueBinAt, distributed, pointCounters}
 use Rattle.model.specs.Format.{byte, u16, formFrom, kindFrom, binRules, BinHead, allowsPatterns, pointRecord, decode, decoded, accepted, tableOf}
 use Rattle.model.specs.Raw.{rows, rangesAt, binAt, binsAt, recordsPlace, recordCount}
 use Rattle.model.specs.Register.{pointTotal}
@@ -39,7 +39,7 @@ use Rattle.spans.specs.Collected.{fitsFrom}
 use Rattle.spans.proofs.Ends.{both}
 use Rattle.spans.proofs.CollectLaws.{length-ranges}
 use Rattle.parts.specs.Rows.{Source, countOf, settledRanges, rowRanges, isOwn, dealable, rising, ownSources, autoSources, sources, Row, partsAt, rowsFrom, partTotal, partFlags, distributedBit, distributedFlags}
-use Rattle.parts.specs.Words.{rowAt, rowsAt, ownAt, sourceAt, If, Fit, Fits, rangeTotal, rangeWordsAt, binWordsAt, allRangeWords, allBinWords, binWords, partsIn, sourcesAt, Planned, Room}
+use Rattle.parts.specs.Words.{rowAt, rowsAt, ownAt, If, Fit, Fits, rangeTotal, allBinWords, sourcesAt, Planned, Room}
 use Rattle.parts.specs.Point.{RowsOf, climbs}
 use Rattle.parts.proofs.SpanLaws.{settled-rises, settled-some, spans-fit}
 use Rattle.parts.proofs.FlagLaws.{Sounds}

@@ -1,9 +1,9 @@
 -- The rows of some sources: they rise, their spans are of the type, and how many they are.
 -- Assumes nothing.
-use mathlib.Core.Path.{_≡_, refl, sym, ap, ap₂, _∙_}
+use mathlib.Core.Path.{_≡_, refl, ap, ap₂, _∙_}
 use mathlib.Core.Bool.{Bool, true, false, _&&_, cond}
 use mathlib.Core.List.{List, [], _∷_, _++_}
-use Prim.Native.Nat.{ℕ, zero, suc, _+_, _-_, _*_, _/_, _≤_, _<_, min}
+use Prim.Native.Nat.{ℕ, suc, _+_, _-_, _/_, _≤_, min}
 use native.Mathlib.Omega.{arith}
 use native.Mathlib.Nat.{mul-le-mul-right}
 use lib.Dec.{leb, eqb}
@@ -13,9 +13,9 @@ use lib.Pow.{pow-pos}
 use borrow.Author.Tests.{le-leb, eqb-true}
 use Rattle.model.specs.Lists.{sumOf}
 use Rattle.model.specs.Table.{Point, Form, single, perValue, fixed, Range, span, pattern, ValueBin, Table, isCover}
-use Rattle.model.specs.Values.{lowest, highest}
+use Rattle.model.specs.Values.{lowest}
 use Rattle.model.specs.Ranges.{size}
-use Rattle.model.specs.Counters.{pointAt, hasAuto, autoCount}
+use Rattle.model.specs.Counters.{pointAt, hasAuto}
 use Rattle.model.specs.Format.{allowsPatterns}
 use Rattle.model.proofs.Readers.{All, all-append}
 use Rattle.model.proofs.WellFormed.{GoodPoint, Legal, GoodBin, WellFormed}
@@ -23,9 +23,9 @@ use Rattle.model.proofs.Exact.{SpanOf, Divisible}
 use Rattle.model.proofs.TableExact.{point-at, divisible}
 use Rattle.spans.specs.Point.{rangesListed}
 use Rattle.spans.proofs.Ends.{both}
-use Rattle.parts.specs.Rows.{Source, source, countOf, shareOf, rowRanges, binSource, ownSources, autoSource, autoSources, sources, Row, row, rangeRows, sourceRows, rowsFrom}
+use Rattle.parts.specs.Rows.{Source, countOf, shareOf, rowRanges, binSource, ownSources, autoSource, autoSources, sources, Row, rangeRows, sourceRows, rowsFrom}
 use Rattle.parts.specs.Words.{rangesIn, rangeTotal}
-use Rattle.parts.specs.Point.{Typed, startOf, endOf, climbs}
+use Rattle.parts.specs.Point.{Typed, climbs}
 use Rattle.parts.proofs.Back.{share-some}
 use Rattle.parts.proofs.SpanLaws.{settled-fewer, settled-spans}
 

@@ -1,9 +1,9 @@
 -- Spans in order and joined: the words that `settle` leaves are `settledWords`, and as ranges they hold the same values.
 -- Assumes nothing.
 use mathlib.Core.Path.{_≡_, refl, sym, ap, ap₂, _∙_}
-use mathlib.Core.Bool.{Bool, true, false, not, _&&_, _||_, cond, or-false}
+use mathlib.Core.Bool.{Bool, true, false, not, _&&_, _||_, cond}
 use mathlib.Core.List.{List, [], _∷_, map}
-use Prim.Native.Nat.{ℕ, zero, suc, _+_, _-_, _*_, _^_, _≤_, _<_}
+use Prim.Native.Nat.{ℕ, suc, _+_, _-_, _*_, _≤_, _<_}
 use native.Mathlib.Omega.{arith}
 use lib.Dec.{leb, ltb}
 use lib.ListN.{length, getD, drop, length-map, drop-of-length-le}
@@ -16,9 +16,9 @@ use Rattle.model.specs.Ranges.{size, sizes}
 use Rattle.model.proofs.Readers.{All}
 use Rattle.model.proofs.Booleans.{and-left, and-right, false-true, bool-eq, or-right}
 use Rattle.model.proofs.Exact.{SpanOf}
-use Rattle.spans.specs.Spans.{lowEnd, highEnd, spanWord, held, heldBy, risesFrom, rising as risingWords, Sorted, joinAll, sound, apartFrom, apart, Settled}
+use Rattle.spans.specs.Spans.{lowEnd, highEnd, held, heldBy, risesFrom, rising as risingWords, joinAll, sound, apartFrom, apart, Settled}
 use Rattle.spans.specs.Collected.{fitsFrom, wordsFrom}
-use Rattle.spans.proofs.Ends.{both, all-any, high-small, is-held, held-low, held-high, not-below, not-above}
+use Rattle.spans.proofs.Ends.{both, all-any, high-small, is-held, not-below, not-above}
 use Rattle.spans.proofs.JoinLaws.{join-settles, fewer}
 use Rattle.spans.proofs.CollectLaws.{words-sound, words-held, length-words}
 use Rattle.model.proofs.Lists.{head-tail}

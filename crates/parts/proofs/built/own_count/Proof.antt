@@ -1,4 +1,3 @@
-use mathlib.Core.Path.{_∙_}
 use native.Mathlib.Omega.{arith}
 use Rattle.parts.proofs.OwnLaws.{own-fit, own-counts}
 use borrow.Author.Needs.{needs}
