@@ -3,3 +3,4 @@ pub mod PointPieces
 pub mod WordLaws
 pub mod MetLaws
 pub mod SearchLaws
+pub mod PlanLaws
