@@ -4,3 +4,4 @@ pub mod WordLaws
 pub mod MetLaws
 pub mod SearchLaws
 pub mod PlanLaws
+pub mod BuildLaws

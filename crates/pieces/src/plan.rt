@@ -26,7 +26,7 @@ pub struct Limits {
     pub high: u64,
 }
 
-fn limits_of(t: &[u8], p: usize) -> Limits
+pub fn limits_of(t: &[u8], p: usize) -> Limits
     requires { ⌜ (accepted (now t) ≡ true) × (p < pointTotal (tableOf (now t))) ⌝ }
     ensures { λ r. ⌜ (r .low ≡ lowest (pointAt (tableOf (now (t .entry))) p)) × (r .high ≡ highest (pointAt (tableOf (now (t .entry))) p)) × (r .low ≤ r .high) × (r .high < 8589934592) ⌝ }
 {
