@@ -1,5 +1,6 @@
 pub mod Rising
 pub mod Rule
+pub mod SpanLaws
 pub mod FlagLaws
 pub mod Exact
 pub mod RaiseLaws
@@ -8,3 +9,5 @@ pub mod BuildLaws
 pub mod OwnLaws
 pub mod Plans
 pub mod PointPlans
+pub mod RowLaws
+pub mod Accepted

@@ -2,3 +2,5 @@
 pub mod built;
 pub mod points;
 pub mod raised;
+pub mod rows;
+pub mod settled;

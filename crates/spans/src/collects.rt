@@ -37,7 +37,7 @@ fn range_word(t: &[u8], at: usize, low: u64) -> u64
 }
 
 // n ranges from start on.
-fn put_ranges(out: &mut [u64], at: usize, t: &[u8], start: usize, n: usize, low: u64) -> usize
+pub fn put_ranges(out: &mut [u64], at: usize, t: &[u8], start: usize, n: usize, low: u64) -> usize
     requires { ⌜ (start ≤ 2000000000) × (n ≤ 65535) × (at + n ≤ length (now out)) × (all (fitsFrom low) (rangesAt (now t) start n) ≡ true) ⌝ }
     ensures { λ r. ⌜ (r ≡ at + n) × (now (out .exit) ≡ put at (wordsFrom low (rangesAt (now (t .entry)) start n)) (now (out .entry))) ⌝ }
 {

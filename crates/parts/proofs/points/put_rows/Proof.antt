@@ -1,0 +1,75 @@
+use Prim.Native.Nat.{_<_}
+use native.Mathlib.Omega.{arith}
+use Rattle.model.proofs.RawExact.{few-points}
+use Rattle.parts.proofs.Accepted.{near-at, wide-at, auto-at, fits-at, room-at, rows-at}
+use borrow.Author.Needs.{needs}
+use Rattle.parts.proofs.points.put_rows.Statement.{statement}
+use Rattle.parts.proofs.points.put_rows.Tie as tie
+
+layout-of-requires : tie.Need-layout-of-requires
+layout-of-requires c κs = search needs
+
+mul-t9 : tie.Need-mul-t9
+mul-t9 c =
+    let g = c .before .before .before .before .before .before in
+    let few : g .args .p < 16 = omega (arith, g .pre .1, few-points (g .args .t .now) (g .pre .0)) in
+    omega arith
+
+add-t10 : tie.Need-add-t10
+add-t10 c =
+    let g = c .before .before .before .before .before .before .before in
+    let few : g .args .p < 16 = omega (arith, g .pre .1, few-points (g .args .t .now) (g .pre .0)) in
+    omega (arith, c .before .layout-of .ensures .1 .points)
+
+cast-put-point : tie.Need-cast-put-point
+cast-put-point c =
+    let g = c .before .before .before .before .before .before .before .before .before .before .before in
+    let few : g .args .p < 16 = omega (arith, g .pre .1, few-points (g .args .t .now) (g .pre .0)) in
+    omega arith
+
+put-point-requires : tie.Need-put-point-requires
+put-point-requires c κs =
+    let g = c .before .before .before .before .before .before .before .before .before .before .before in
+    let a = g .args in
+    let s = a .t .now in
+    let d = c .before .before .before .before .before .layout-of in
+    let near = near-at s (g .pre .0) (a .p) (g .pre .1) (d .result) (d .ensures .0) in
+    let wide = wide-at s (g .pre .0) (a .p) (g .pre .1) (d .result) (d .ensures .0) in
+    let auto = auto-at s (g .pre .0) (a .p) (g .pre .1) (d .result) (d .ensures .0) in
+    let fits = fits-at s (g .pre .0) (a .p) (g .pre .1) (d .result) (d .ensures .0) in
+    let room = room-at s (g .pre .0) (a .p) (g .pre .1) (d .result) (d .ensures .0) (a .w .now) (a .bins .now) (g .pre .2) (g .pre .3) in
+    ((near, wide, auto, fits), (room, g .pre .4, g .pre .5))
+
+same-length : tie.Need-same-length
+same-length c = search needs
+
+same-length-2 : tie.Need-same-length-2
+same-length-2 c = search needs
+
+same-length-3 : tie.Need-same-length-3
+same-length-3 c = search needs
+
+same-length-4 : tie.Need-same-length-4
+same-length-4 c = search needs
+
+returns : tie.Need-returns
+returns c =
+    let g = c .before .before .before .before .before .before .before .before .before .before .before .before .before .before .before .before .before .before .before .before in
+    let a = g .args in
+    let d = c .before .before .before .before .before .before .before .before .before .before .before .before .before .before .layout-of in
+    rows-at (a .t .now) (g .pre .0) (a .p) (g .pre .1) (d .result) (d .ensures .0) _ _ _ _ (c .before .before .before .before .before .before .before .before .put-point .ensures)
+
+pub put-rows-spec : {M : Type 1} → statement M
+put-rows-spec =
+    tie.close
+    (tie.spec
+    layout-of-requires
+    mul-t9
+    add-t10
+    cast-put-point
+    put-point-requires
+    same-length
+    same-length-2
+    same-length-3
+    same-length-4
+    returns)
