@@ -3,3 +3,5 @@ pub mod PointPieces
 pub mod WordLaws
 pub mod MetLaws
 pub mod SearchLaws
+pub mod PlanLaws
+pub mod BuildLaws

@@ -10,7 +10,7 @@ use lib.ListN.{length, getD}
 use Rattle.model.specs.Lists.{any, asBit}
 use Rattle.model.specs.Table.{Range, span, pattern, Table}
 use Rattle.model.specs.Values.{highest, inType, inRange}
-use Rattle.model.specs.Counters.{CoverBin, noCoverBin, pointAt, excludedValue, holds, meets}
+use Rattle.model.specs.Counters.{CoverBin, noCoverBin, pointAt, excludedValue, holds, meets, hasValue}
 use Rattle.model.specs.Raw.{rows}
 use Rattle.model.proofs.Readers.{All}
 use Rattle.arrays.specs.Flat.{covers}
@@ -56,3 +56,10 @@ metBit t lo hi c = asBit (meets t c lo hi)
 -- a byte for each part of the point
 unfoldable pub metBits : Table → ℕ → ℕ → ℕ → List ℕ
 metBits t p lo hi = map (metBit t lo hi) (covers t p)
+
+-- 1 if the part still holds a value
+abbrev pub hasBit : Table → CoverBin → ℕ
+hasBit t c = asBit (hasValue t c)
+
+unfoldable pub hasBits : Table → ℕ → List ℕ
+hasBits t p = map (hasBit t) (covers t p)

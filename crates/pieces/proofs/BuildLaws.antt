@@ -1,0 +1,181 @@
+-- The words of a point's plan: written, read back, and kept by later writes.
+-- Assumes nothing.
+use mathlib.Core.Path.{_≡_, refl, sym, ap, ap₂, _∙_, subst}
+use mathlib.Core.Bool.{Bool, true, false, cond}
+use mathlib.Core.List.{List, [], _∷_, _++_, append-assoc}
+use Prim.Native.Nat.{ℕ, zero, suc, _+_, _-_, _*_, _/_, _%_, _^_, _≤_, _<_}
+use native.Mathlib.Omega.{arith}
+use lib.Dec.{ltb}
+use lib.ListN.{length, getD, set, take, drop, length-take, length-drop, drop-of-length-le}
+use lib.Seq.{getD-drop, getD-take, ext-getD, take-at}
+use borrow.Author.Tests.{lt-ltb, le-ltb}
+use Rattle.model.specs.Lists.{sumOf, upFrom}
+use Rattle.model.specs.Table.{Range, span, pattern, Table}
+use Rattle.model.specs.Values.{lowest, highest}
+use Rattle.model.specs.Counters.{pointAt}
+use Rattle.model.specs.Format.{accepted, tableOf}
+use Rattle.model.specs.Raw.{rows, recordsPlace, recordCount}
+use Rattle.model.proofs.Lists.{head-tail}
+use Rattle.model.proofs.Readers.{All, all-map}
+use Rattle.arrays.specs.Put.{put}
+use Rattle.arrays.specs.Flat.{covers}
+use Rattle.arrays.proofs.PutLaws.{put-nil, put-cons, put-in, put-before, length-put, put-next}
+use Rattle.ranges.specs.Taken.{excludedAt}
+use Rattle.layout.specs.Places.{layoutOf}
+use Rattle.layout.specs.declared.Layout.{Layout}
+use Rattle.spans.specs.Spans.{Settled}
+use Rattle.spans.specs.Collected.{wordsFrom, Collectable}
+use Rattle.spans.proofs.Exact.{accepted-collectable}
+use Rattle.spans.proofs.Point.{spans-of, excluded-listed}
+use Rattle.spans.specs.Point.{SpansOf, freeValue, rangesListed}
+use Rattle.parts.specs.Rows.{Row}
+use Rattle.parts.specs.Point.{RowsOf}
+use Rattle.pieces.specs.Pieces.{Piece, piece, pieceAt, piecesAt, PiecesOf}
+use Rattle.pieces.specs.Cuts.{allPieces, rangeWords, pieceWords, Cuttable}
+use Rattle.pieces.specs.Plan.{segment, PointPlan}
+use Rattle.pieces.proofs.WordLaws.{words-length}
+use Rattle.pieces.proofs.PointPieces.{rows-cuttable, pieces-of, pieces-few}
+use Rattle.pieces.proofs.PlanLaws.{pieces-same}
+
+-- ---- read back
+
+abbrev Small : Piece → Type 0
+Small q = q .part < 65536
+
+one-back : (R : Range) (k : ℕ) (ws : List ℕ) → k < 65536 → pieceAt (rangeWords R k ++ ws) 0 ≡ piece R k
+one-back (span a b) k ws h = ap₂ (λ (c : Bool) (m : ℕ). piece (cond c (span a b) (pattern a b)) m) (lt-ltb k 65536 h) (let z : k % 65536 ≡ k = omega arith in z)
+one-back (pattern a b) k ws h = ap₂ (λ (c : Bool) (m : ℕ). piece (cond c (span a b) (pattern a b)) m) (le-ltb (k + 65536) 65536 (omega arith)) (let z : (k + 65536) % 65536 ≡ k = omega arith in z)
+
+words-back : (qs : List Piece) → All Small qs → piecesAt (pieceWords qs) 0 (length qs) ≡ qs
+unfolding pieceWords rows
+words-back [] h = refl
+words-back (q ∷ qs) h =
+    ap₂ _∷_ (one-back (q .range) (q .part) (pieceWords qs) (h .0)) (pieces-same (length qs) (rangeWords (q .range) (q .part) ++ pieceWords qs) (pieceWords qs) (0 + 3) 0 (λ i k. skip (q .range) i) ∙ words-back qs (h .1))
+  where
+    skip : (R : Range) (i : ℕ) → getD (rangeWords R (q .part) ++ pieceWords qs) (0 + 3 + i) 0 ≡ getD (pieceWords qs) (0 + i) 0
+    skip (span a b) i = ap (λ (x : ℕ). getD (a ∷ b ∷ q .part ∷ pieceWords qs) x 0) (let z : 0 + 3 + i ≡ suc (suc (suc i)) = omega arith in z) ∙ ap (λ (x : ℕ). getD (pieceWords qs) x 0) (let z : i ≡ 0 + i = omega arith in z)
+    skip (pattern a b) i = ap (λ (x : ℕ). getD (a ∷ b ∷ (q .part + 65536) ∷ pieceWords qs) x 0) (let z : 0 + 3 + i ≡ suc (suc (suc i)) = omega arith in z) ∙ ap (λ (x : ℕ). getD (pieceWords qs) x 0) (let z : i ≡ 0 + i = omega arith in z)
+
+pub pieces-back : (qs : List Piece) → All Small qs → (at : ℕ) (l : List ℕ) → at + 3 * length qs ≤ length l → piecesAt (put at (pieceWords qs) l) at (length qs) ≡ qs
+pieces-back qs h at l fit =
+    pieces-same (length qs) (put at (pieceWords qs) l) (pieceWords qs) at 0
+    (λ i k. put-in at (pieceWords qs) l i 0 (omega arith) (omega (arith, words-length qs)) ∙ ap (λ (x : ℕ). getD (pieceWords qs) x 0) (let z : i ≡ 0 + i = omega arith in z))
+    ∙ words-back qs h
+
+-- ---- kept
+
+pub take-put : {A : Type 0} (n : ℕ) (xs l : List A) → n ≤ length l → take n (put n xs l) ≡ take n l
+unfolding put
+take-put n xs l h = rw (append-assoc (take n l) xs (drop (n + length xs) l)) (take-at (take n l) (xs ++ drop (n + length xs) l) n (simp length-take (omega arith)))
+
+same-below : (c : ℕ) (l l′ : List ℕ) → take c l′ ≡ take c l → (i : ℕ) → i < c → getD l′ i 0 ≡ getD l i 0
+same-below c l l′ e i h = sym (getD-take c l′ i 0 h) ∙ ap (λ (x : List ℕ). getD x i 0) e ∙ getD-take c l i 0 h
+
+segment-same : (u w : List ℕ) (from to : ℕ) → from ≤ to → to ≤ length u → to ≤ length w → ((i : ℕ) → i < to → getD u i 0 ≡ getD w i 0) → segment u from to ≡ segment w from to
+segment-same u w from to h k m e =
+    let long : length (take (to - from) (drop from u)) ≡ to - from = simp (length-take, length-drop) (omega arith) in
+    let long₁ : length (take (to - from) (drop from w)) ≡ to - from = simp (length-take, length-drop) (omega arith) in
+    ext-getD 0 (segment u from to) (segment w from to) (long ∙ sym long₁) λ i j.
+    let b : i < to - from = omega arith in
+    getD-take (to - from) (drop from u) i 0 b ∙ getD-drop from u i 0 ∙ e (from + i) (omega arith) ∙ sym (getD-take (to - from) (drop from w) i 0 b ∙ getD-drop from w i 0)
+
+-- a write above the point's words
+pub plan-kept : (t : Table) (p : ℕ) (w w′ : List ℕ) (from mid to c : ℕ) → PointPlan t p w from mid to → to ≤ c → length w′ ≡ length w → take c w′ ≡ take c w → PointPlan t p w′ from mid to
+plan-kept t p w w′ from mid to c o h el e =
+    record {
+      order = o .order;
+      order₁ = o .order₁;
+      order₂ = omega (arith, o .order₂);
+      spans = subst (SpansOf t p) (segment-same w w′ from mid (o .order) (omega (arith, o .order₁, o .order₂)) (omega (arith, o .order₁, o .order₂)) (λ i k. sym (below i (omega (arith, o .order₁))))) (o .spans);
+      pieces = subst (PiecesOf t p) (pieces-same ((to - mid) / 3) w w′ mid mid (λ i k. sym (below (mid + i) (omega (arith, o .order₁))))) (o .pieces);
+    }
+  where
+    below : (i : ℕ) → i < to → getD w′ i 0 ≡ getD w i 0
+    below i k = same-below c w w′ e i (omega arith)
+
+-- ---- written: the spans from `at` on, and then the pieces
+
+module _ (t : Table) (p m : ℕ) (rs : List Row) (rowsOf : RowsOf t p rs m) (few : m ≤ 256) (ws : List ℕ) (o : SpansOf t p ws) (short : length ws ≤ rangesListed t p) (low : ℕ) (el : low ≡ lowest (pointAt t p)) (at : ℕ) (l : List ℕ)
+    (room : at + 4 * rangesListed t p + 771 ≤ length l) where
+  abbrev qs : List Piece
+  qs = allPieces (freeValue ws low) rs
+
+  pub rows-ready : highest (pointAt t p) < 2 ^ 33 → All (Cuttable low) rs
+  rows-ready h = subst (λ (x : ℕ). All (Cuttable x) rs) (sym el) (rows-cuttable t p m rs rowsOf (omega arith) h)
+
+  pieces-number : length qs ≤ rangesListed t p + 257
+  pieces-number = omega (arith, pieces-few t p m (freeValue ws low) rs rowsOf, rowsOf .few)
+
+  module _ (mid : ℕ) (l₁ : List ℕ) (em : mid ≡ at + length ws) (e₁ : l₁ ≡ put at ws l) where
+    long₁ : length l₁ ≡ length l
+    long₁ = ap length e₁ ∙ length-put at ws l (omega arith)
+
+    -- there is room for the pieces
+    pub pieces-room : mid + 3 * length qs ≤ length l₁
+    pieces-room = omega (arith, long₁, pieces-number)
+
+    module _ (end : ℕ) (l₂ : List ℕ) (ee : end ≡ mid + 3 * length qs) (e₂ : l₂ ≡ put mid (pieceWords qs) l₁) where
+      long₂ : length l₂ ≡ length l₁
+      long₂ = ap length e₂ ∙ length-put mid (pieceWords qs) l₁ (omega (arith, pieces-room, words-length qs))
+
+      first : segment l₂ at mid ≡ ws
+      first =
+          let long : length (take (mid - at) (drop at l₂)) ≡ length ws = simp (length-take, length-drop) (omega (arith, long₂, pieces-room)) in
+          ext-getD 0 (segment l₂ at mid) ws long λ i h.
+          let b : i < mid - at = omega arith in
+          let c : i < length ws = omega arith in
+          getD-take (mid - at) (drop at l₂) i 0 b ∙ getD-drop at l₂ i 0
+          ∙ ap (λ (x : List ℕ). getD x (at + i) 0) e₂ ∙ put-before mid (pieceWords qs) l₁ (at + i) 0 (omega (arith, pieces-room)) (omega arith)
+          ∙ ap (λ (x : List ℕ). getD x (at + i) 0) e₁ ∙ put-in at ws l i 0 (omega arith) c
+
+      whole : PiecesOf t p qs
+      whole = subst (λ (x : ℕ). PiecesOf t p (allPieces (freeValue ws x) rs)) (sym el) (pieces-of t p m rs ws rowsOf o)
+
+      second : piecesAt l₂ mid ((end - mid) / 3) ≡ qs
+      second =
+          let z : (end - mid) / 3 ≡ length qs = omega arith in
+          ap₂ (λ (x : List ℕ) (n : ℕ). piecesAt x mid n) e₂ z
+          ∙ pieces-back qs (all-map (λ q. q .part < length (covers t p)) Small (λ q h. omega (arith, h, rowsOf .parts)) qs (whole .parts)) mid l₁ pieces-room
+
+      pub planned : PointPlan t p l₂ at mid end
+      planned = record { order = omega arith; order₁ = omega arith; order₂ = omega (arith, long₂, pieces-room); spans = subst (SpansOf t p) (sym first) o; pieces = subst (PiecesOf t p) (sym second) whole }
+
+      pub kept-below : take at l₂ ≡ take at l
+      kept-below =
+          ap (take at) (e₂ ∙ ap₂ (λ (a : ℕ) (x : List ℕ). put a (pieceWords qs) x) em e₁ ∙ put-next at (length ws) ws (pieceWords qs) l refl (omega arith))
+          ∙ take-put at (ws ++ pieceWords qs) l (omega arith)
+
+      pub ends-few : end ≤ at + 4 * rangesListed t p + 771
+      ends-few = omega (arith, pieces-number)
+
+-- ---- words copied
+
+pub copy-turn : (at i : ℕ) (words l whole : List ℕ) → i < length words → at + i < length l → put (at + i) (drop i words) l ≡ whole → put (at + (i + 1)) (drop (i + 1) words) (set l (at + i) (getD words i 0)) ≡ whole
+copy-turn at i words l whole h k e =
+    ap (λ (a : ℕ). put a (drop (i + 1) words) (set l (at + i) (getD words i 0))) (let z : at + (i + 1) ≡ at + i + 1 = omega arith in z)
+    ∙ put-cons (at + i) (getD words i 0) (drop (i + 1) words) l k
+    ∙ ap (λ (xs : List ℕ). put (at + i) xs l) (sym (head-tail words i 0 h))
+    ∙ e
+
+pub copy-end : (at i : ℕ) (words l whole : List ℕ) → length words ≤ i → put (at + i) (drop i words) l ≡ whole → l ≡ whole
+copy-end at i words l whole h e = sym (ap (λ (xs : List ℕ). put (at + i) xs l) (drop-of-length-le words h) ∙ put-nil (at + i) l) ∙ e
+
+-- ---- a point's spans, by the layout
+
+module _ (s : List ℕ) (ok : accepted s ≡ true) (p : ℕ) (l : Layout) (el : l ≡ layoutOf s) (low : ℕ) (e : low ≡ lowest (pointAt (tableOf s) p)) where
+  pub collectable : (room : ℕ) → 1024 ≤ room → Collectable s (l .bins) (l .ranges) (l .«bin_count») p low room
+  unfolding layoutOf
+  collectable room h =
+      subst (λ (x : Layout). Collectable s (x .bins) (x .ranges) (x .«bin_count») p low room) (sym el)
+      (subst (λ (y : ℕ). Collectable s (recordsPlace s 1) (recordsPlace s 2) (recordCount s 1) p y room) (sym e) (accepted-collectable s ok p room h))
+
+  pub settled-spans : (ws : List ℕ) → Settled (wordsFrom low (excludedAt s (l .bins) (l .ranges) (l .«bin_count») p)) ws → SpansOf (tableOf s) p ws
+  unfolding layoutOf
+  settled-spans ws o =
+      spans-of s ok p ws
+      (subst (λ (y : ℕ). Settled (wordsFrom y (excludedAt s (recordsPlace s 1) (recordsPlace s 2) (recordCount s 1) p)) ws) e
+      (subst (λ (x : Layout). Settled (wordsFrom low (excludedAt s (x .bins) (x .ranges) (x .«bin_count») p)) ws) el o))
+
+  pub spans-listed : length (excludedAt s (l .bins) (l .ranges) (l .«bin_count») p) ≤ rangesListed (tableOf s) p
+  unfolding layoutOf
+  spans-listed = subst (λ (x : Layout). length (excludedAt s (x .bins) (x .ranges) (x .«bin_count») p) ≤ rangesListed (tableOf s) p) (sym el) (excluded-listed s ok p)
