@@ -3,8 +3,8 @@ use Prim.Native.Nat.{_+_, _-_, _*_, _≤_}
 use native.Mathlib.Omega.{arith}
 use Rattle.model.specs.Raw.{tokenTotal}
 use Rattle.crosses.proofs.Laws.{tokensFrom, tokens-start, tokens-turn, tokens-end}
-use Rattle.crosses.proofs.all.token_total.Statement.{statement}
-use Rattle.crosses.proofs.all.token_total.Tie as tie
+use Rattle.crosses.proofs.order.token_total.Statement.{statement}
+use Rattle.crosses.proofs.order.token_total.Tie as tie
 
 abbrev Inv-loop : tie.InvT-loop
 Inv-loop t b n sum₀ i₀ sum i = (i ≤ n) × (sum ≤ 255 * i) × (tokenTotal t b n ≡ sum + tokensFrom t b n i)
