@@ -21,7 +21,7 @@ put-crossed-requires : tie.Need-put-crossed-requires
 put-crossed-requires c κs =
     let b = c .before .before .before .before .before .before .before .before .before .before .before .before .before .before .before in
     let s = b .args .t .now in
-    (b .pre .0, omega arith, omega (arith, all-few s (b .pre .0)))
+    (b .pre .0, omega (arith, all-few s (b .pre .0)))
 
 same-length : tie.Need-same-length
 same-length c = search needs

@@ -22,12 +22,12 @@ put-same-requires : tie.Need-put-same-requires Inv-loop μ-loop
 put-same-requires c κs = omega (arith, c .before .before .before .before .before .pre .1 .whole .small, c .before .before .before .before .before .pre .2)
 
 loop-holds : tie.Need-loop-holds Inv-loop μ-loop
-loop-holds c = 
+loop-holds c =
     let a = c .before .before .before .before .before .before .before .before .args in
     (omega arith, refl, open-start (a .t .now) (a .gate .now) (a .p .cross + 1) (sizesOf (a .s)) (a .s .total) (a .stack .now) _ (c .before .before .put-same .ensures .1))
 
 and-gate-requires : tie.Need-and-gate-requires Inv-loop μ-loop
-and-gate-requires c κs = 
+and-gate-requires c κs =
     let a = c .before .before .before .before .before .before .before .before .before .before .before .args in
     let pre = c .before .before .before .before .before .before .before .before .before .before .before .pre in
     (omega (arith, cross-placed (a .t .now) (a .p) (pre .0) .near .0), omega (arith, pre .1 .whole .few), pre .1 .whole, omega (arith, pre .2, c .before .before .loop .inv .1))
@@ -39,7 +39,7 @@ loop-less : tie.Need-loop-less Inv-loop μ-loop
 loop-less c = omega arith
 
 loop-again : tie.Need-loop-again Inv-loop μ-loop
-loop-again c = 
+loop-again c =
     let a = c .before .before .before .before .before .before .before .before .before .before .before .before .before .before .args in
     let pre = c .before .before .before .before .before .before .before .before .before .before .before .before .before .before .pre in
     let l = c .before .before .before .before .before .loop in
@@ -50,7 +50,7 @@ same-length : tie.Need-same-length Inv-loop μ-loop
 same-length c = c .before .loop .inv .1 ∙ c .before .before .before .before .put-same .kept .0
 
 returns : tie.Need-returns Inv-loop μ-loop
-returns c = 
+returns c =
     let a = c .before .before .before .before .before .before .before .before .before .before .args in
     let pre = c .before .before .before .before .before .before .before .before .before .before .pre in
     let l = c .before .loop in

@@ -23,7 +23,7 @@ abbrev μ-loop : tie.MeasureT-loop
 μ-loop marks₀ stack₀ leaves₀ t origins s total at n weight₀ bin₀ token₀ i₀ marks stack leaves weight bin token i = n - i
 
 add-byte : tie.Need-add-byte Inv-loop μ-loop
-add-byte c = 
+add-byte c =
     let a = c .before .before .before .before .before .args in
     let pre = c .before .before .before .before .before .pre in
     omega (arith, cross-placed (a .t .now) (a .p) (pre .0 .0) .near .0)
@@ -38,7 +38,7 @@ put-same-u16-requires : tie.Need-put-same-u16-requires Inv-loop μ-loop
 put-same-u16-requires c κs = omega (arith, c .before .before .before .before .before .before .before .pre .0 .1 .whole .small, c .before .before .before .before .before .before .before .pre .1 .0)
 
 loop-holds : tie.Need-loop-holds Inv-loop μ-loop
-loop-holds c = 
+loop-holds c =
     let a = c .before .before .before .before .before .before .before .before .before .before .args in
     let pre = c .before .before .before .before .before .before .before .before .before .before .pre in
     let good = cross-placed (a .t .now) (a .p) (pre .0 .0) in
@@ -59,7 +59,7 @@ loop-holds c =
     )
 
 add-byte-2 : tie.Need-add-byte-2 Inv-loop μ-loop
-add-byte-2 c = 
+add-byte-2 c =
     let a = c .before .before .before .before .before .before .before .before .before .before .before .before .args in
     let pre = c .before .before .before .before .before .before .before .before .before .before .before .before .pre in
     omega (arith, c .before .loop .inv .1, cross-placed (a .t .now) (a .p) (pre .0 .0) .near .1, c .before .before .before .before .before .before .byte .ensures)
@@ -71,7 +71,7 @@ cast-m : tie.Need-cast-m Inv-loop μ-loop
 cast-m c = omega arith
 
 put-rows-requires : tie.Need-put-rows-requires Inv-loop μ-loop
-put-rows-requires c κs = 
+put-rows-requires c κs =
     let a = c .before .before .before .before .before .before .before .before .before .before .before .before .before .before .args in
     let pre = c .before .before .before .before .before .before .before .before .before .before .before .before .before .before .pre in
     let l = c .before .before .before .loop in
@@ -85,7 +85,7 @@ put-rows-requires c κs =
     ((omega (arith, pre .1 .2, l .inv .5), legal .0, omega (arith, good .near .0), omega (arith, good .near .2, l .inv .2)), (made-ready (a .t .now) (a .p) (pre .0 .0) (a .origins .now) (pre .0 .2), legal .1))
 
 eval-all-requires : tie.Need-eval-all-requires Inv-loop μ-loop
-eval-all-requires c κs = 
+eval-all-requires c κs =
     let a = c .before .before .before .before .before .before .before .before .before .before .before .before .before .before .before .before .before .before .before .args in
     let pre = c .before .before .before .before .before .before .before .before .before .before .before .before .before .before .before .before .before .before .before .pre in
     let l = c .before .before .before .before .before .before .before .before .loop in
@@ -99,7 +99,7 @@ eval-all-requires c κs =
     (omega (arith, good .near .2, l .inv .2), omega (arith, legal .0), pre .0 .1 .whole, omega (arith, legal .0, l .inv .4, pre .1 .1))
 
 cast-add-bit : tie.Need-cast-add-bit Inv-loop μ-loop
-cast-add-bit c = 
+cast-add-bit c =
     let a = c .before .before .before .before .before .before .before .before .before .before .before .before .before .before .before .before .before .before .before .before .before .before .before .before .args in
     let pre = c .before .before .before .before .before .before .before .before .before .before .before .before .before .before .before .before .before .before .before .before .before .before .before .before .pre in
     let l = c .before .before .before .before .before .before .before .before .before .before .before .before .before .loop in
@@ -113,7 +113,7 @@ cast-add-bit c =
     omega (arith, c .before .before .before .before .before .before .before .before .before .before .before .before .before .loop .inv .6, pow-mono {i = c .before .before .before .before .before .before .before .before .before .before .before .before .before .loop .i} {j = 15} (omega (arith, count, h)))
 
 add-bit-requires : tie.Need-add-bit-requires Inv-loop μ-loop
-add-bit-requires c κs = 
+add-bit-requires c κs =
     let a = c .before .before .before .before .before .before .before .before .before .before .before .before .before .before .before .before .before .before .before .before .before .before .before .before .args in
     let pre = c .before .before .before .before .before .before .before .before .before .before .before .before .before .before .before .before .before .before .before .before .before .before .before .before .pre in
     let l = c .before .before .before .before .before .before .before .before .before .before .before .before .before .loop in
@@ -130,7 +130,7 @@ add-bit-requires c κs =
     (omega (arith, pre .1 .0, pre .0 .1 .whole .small, l .inv .3, c .before .before .before .before .before .before .before .before .before .before .before .before .before .before .before .before .put-same-u16 .kept .0), omega (arith, pre .1 .1, pre .0 .1 .whole .small, l .inv .4, v .kept .0), omega (arith, c .before .before .before .before .before .before .before .before .before .before .before .before .before .loop .inv .6, pow-mono {i = c .before .before .before .before .before .before .before .before .before .before .before .before .before .loop .i} {j = 15} (omega (arith, count, h))), l .inv .9 .below, bits-below (tableOf (a .t .now)) (a .t .now) (a .p .cross) (l .token) (m .result) (a .s .total) (v .last .0) chose)
 
 mul-weight : tie.Need-mul-weight Inv-loop μ-loop
-mul-weight c = 
+mul-weight c =
     let a = c .before .before .before .before .before .before .before .before .before .before .before .before .before .before .before .before .before .before .before .before .before .before .before .before .before .before .before .args in
     let pre = c .before .before .before .before .before .before .before .before .before .before .before .before .before .before .before .before .before .before .before .before .before .before .before .before .before .before .before .pre in
     let l = c .before .before .before .before .before .before .before .before .before .before .before .before .before .before .before .before .loop in
@@ -144,7 +144,7 @@ mul-weight c =
     omega (arith, c .before .before .before .before .before .before .before .before .before .before .before .before .before .before .before .before .loop .inv .6, pow-mono {i = c .before .before .before .before .before .before .before .before .before .before .before .before .before .before .before .before .loop .i} {j = 15} (omega (arith, count, h)))
 
 add-bin : tie.Need-add-bin Inv-loop μ-loop
-add-bin c = 
+add-bin c =
     let a = c .before .before .before .before .before .before .before .before .before .before .before .before .before .before .before .before .before .before .before .before .before .before .before .before .before .before .before .args in
     let pre = c .before .before .before .before .before .before .before .before .before .before .before .before .before .before .before .before .before .before .before .before .before .before .before .before .before .before .before .pre in
     let l = c .before .before .before .before .before .before .before .before .before .before .before .before .before .before .before .before .loop in
@@ -161,7 +161,7 @@ mul-token : tie.Need-mul-token Inv-loop μ-loop
 mul-token c = omega arith
 
 add-token : tie.Need-add-token Inv-loop μ-loop
-add-token c = 
+add-token c =
     let a = c .before .before .before .before .before .before .before .before .before .before .before .before .before .before .before .before .before .before .before .before .before .before .before .before .before .before .before .args in
     let pre = c .before .before .before .before .before .before .before .before .before .before .before .before .before .before .before .before .before .before .before .before .before .before .before .before .before .before .before .pre in
     let l = c .before .before .before .before .before .before .before .before .before .before .before .before .before .before .before .before .loop in
@@ -181,7 +181,7 @@ loop-less : tie.Need-loop-less Inv-loop μ-loop
 loop-less c = omega arith
 
 loop-again : tie.Need-loop-again Inv-loop μ-loop
-loop-again c = 
+loop-again c =
     let a = c .before .before .before .before .before .before .before .before .before .before .before .before .before .before .before .before .before .before .before .before .before .before .before .before .before .before .before .args in
     let pre = c .before .before .before .before .before .before .before .before .before .before .before .before .before .before .before .before .before .before .before .before .before .before .before .before .before .before .before .pre in
     let l = c .before .before .before .before .before .before .before .before .before .before .before .before .before .before .before .before .loop in
@@ -195,8 +195,7 @@ loop-again c =
     let rows = c .before .before .before .before .before .before .before .before .before .before .before .before .put-rows in
     let v = c .before .before .before .before .before .before .before .eval-all in
     let add = c .before .before .add-bit in
-    let chose = chosen (tableOf (a .t .now)) (a .t .now) (a .p .cross) (sizesOf (a .s)) (sizes-parts (a .t .now) (a .p) (pre .0 .0) (a .s) (pre .0 .1)) (a .s .total) (pre .0 .1 .whole .all) (rows .last .0) (l .token) (m .result) (legal .0) (rows .ensures) (legal .1) (one .0) (v .result) (v .last .0) (v .ensures .1) in
-    (
+    let chose = chosen (tableOf (a .t .now)) (a .t .now) (a .p .cross) (sizesOf (a .s)) (sizes-parts (a .t .now) (a .p) (pre .0 .0) (a .s) (pre .0 .1)) (a .s .total) (pre .0 .1 .whole .all) (rows .last .0) (l .token) (m .result) (legal .0) (rows .ensures) (legal .1) (one .0) (v .result) (v .last .0) (v .ensures .1) in (
       omega (arith, h),
       omega (arith, l .inv .1),
       omega (arith, l .inv .2, legal .0),
@@ -219,7 +218,7 @@ same-length-3 : tie.Need-same-length-3 Inv-loop μ-loop
 same-length-3 c = c .before .loop .inv .5
 
 returns : tie.Need-returns Inv-loop μ-loop
-returns c = 
+returns c =
     let a = c .before .before .before .before .before .before .before .before .before .before .before .before .args in
     let pre = c .before .before .before .before .before .before .before .before .before .before .before .before .pre in
     let l = c .before .loop in

@@ -20,7 +20,7 @@ inner-of-requires : tie.Need-inner-of-requires
 inner-of-requires c κs = (omega (arith, cross-placed (c .before .before .before .before .before .args .t .now) (c .before .before .before .before .before .args .p) (c .before .before .before .before .before .pre .0) .four, c .before .before .byte .ensures), omega arith)
 
 mul-t11 : tie.Need-mul-t11
-mul-t11 c = 
+mul-t11 c =
     let a = c .before .before .before .before .before .before .args in
     let pre = c .before .before .before .before .before .before .pre in
     let count = c .before .before .before .byte in
@@ -30,7 +30,7 @@ mul-t11 c =
     omega (arith, shape-small (a .t .now) (a .p) (pre .0) (a .counts .now) (pre .1) (count .result) (size .result) (count .ensures) (size .ensures) (first .result) (inner .result) (first .ensures .0) (inner .ensures))
 
 returns : tie.Need-returns
-returns c = 
+returns c =
     let a = c .before .before .before .before .before .before .args in
     let pre = c .before .before .before .before .before .before .pre in
     let count = c .before .before .before .byte in

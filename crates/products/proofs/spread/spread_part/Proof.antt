@@ -16,7 +16,7 @@ inner-of-requires : tie.Need-inner-of-requires
 inner-of-requires c κs = search needs
 
 spread-requires : tie.Need-spread-requires
-spread-requires c κs = 
+spread-requires c κs =
     let a = c .before .before .before .before .before .before .args in
     let inner = c .before .inner-of in
     let size = c .before .before .parts-at in
@@ -25,7 +25,7 @@ spread-requires c κs =
     (omega (arith, fits), omega arith, size .ensures .1)
 
 mul-go-round : tie.Need-mul-go-round
-mul-go-round c = 
+mul-go-round c =
     let a = c .before .before .before .before .before .before .before .before .before .before .args in
     let inner = c .before .before .before .before .before .inner-of in
     let size = c .before .before .before .before .before .before .parts-at in
@@ -34,7 +34,7 @@ mul-go-round c =
     omega (arith, fits)
 
 go-round-requires : tie.Need-go-round-requires
-go-round-requires c κs = 
+go-round-requires c κs =
     let a = c .before .before .before .before .before .before .before .before .before .before .args in
     let inner = c .before .before .before .before .before .inner-of in
     let size = c .before .before .before .before .before .before .parts-at in
@@ -46,7 +46,7 @@ same-length : tie.Need-same-length
 same-length c = search needs
 
 returns-2 : tie.Need-returns-2
-returns-2 c = 
+returns-2 c =
     let a = c .before .before .before .before .before .before .before .before .before .before .before .before .before .args in
     let inner = c .before .before .before .before .before .before .before .before .inner-of in
     let size = c .before .before .before .before .before .before .before .before .before .parts-at in
