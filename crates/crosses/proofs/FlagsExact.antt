@@ -8,23 +8,25 @@ use native.Mathlib.Omega.{arith}
 use native.Mathlib.Nat.{pow-suc, div-one, div-div-eq-div-mul}
 use lib.Dec.{eqb}
 use lib.Bits.{bitAnd, and-zero-r}
-use lib.ListN.{length, getD, take, replicate, length-append, length-map, length-replicate}
+use lib.ListN.{length, getD, replicate, length-append, length-map, length-replicate}
 use Rattle.model.specs.Lists.{upFrom, any, all, bit, asBit, orAll, bitsFrom}
 use Rattle.model.specs.Table.{Kind, cover, ignore, illegal, default, CrossBin, Cross, Table, noCrossBin, excludes}
 use Rattle.model.specs.Counters.{CoverBin, Counter, crossBin, illegalCross, product, crossAt, crossBinAt, crossBinCounter, crossBinCounters, crossCounters, products, productCount, selects, selected, excludedProduct, owns, hasValue}
 use Rattle.model.specs.Sampling.{Stretches, guardTrue, coverHit, productHit, hits}
 use Rattle.model.specs.Figures.{inTotal}
-use Rattle.model.specs.Register.{pointTotal}
-use Rattle.model.specs.Format.{byte, guardFrom, CrossBinHead, accepted, tableOf}
+use Rattle.model.specs.Format.{byte, guardFrom, CrossBinHead, tableOf}
 use Rattle.model.specs.Raw.{rows, crossBinsAt}
 use Rattle.model.proofs.Limits.{products-count}
 use Rattle.model.proofs.RunBits.{bits-at, bits-and, bits-zero, bit-zero, bit-orAll}
 use Rattle.model.proofs.Lists.{map-map, any-cong, any-numbers, any-out, pair-map, pair-length}
 use Rattle.model.proofs.RawCrosses.{length-cross-bins}
-use Rattle.arrays.specs.Flat.{hitFlags, totalFlags, coverCounts, productHits, productMark, productMarks, crossPlace}
-use Rattle.crosses.specs.Flags.{gateOf, flagsOf, passes, placeOf, headsAt, maskOf, ownMark, ownMarks, isOdd, labelOf, binFlags, productFlag, productFlags, everyMark, crossFlags}
-use Rattle.crosses.specs.Labels.{binLabels, productsAt, crossLabels}
-use Rattle.crosses.proofs.Places.{cross-at, products-at}
+use Rattle.arrays.specs.Flat.{hitFlags, totalFlags, productHits}
+use Rattle.products.specs.Shapes.{Stands}
+use Rattle.products.specs.declared.places.Place.{Place}
+use Rattle.products.specs.Marks.{crossMark, crossMarks}
+use Rattle.crosses.specs.Flags.{gateOf, flagsOf, passes, headsAt, maskOf, ownMark, ownMarks, isOdd, labelOf, binFlags, productFlag, productFlags, everyMark, crossFlags}
+use Rattle.crosses.specs.Labels.{binLabels, crossLabels}
+use Rattle.products.proofs.Exact.{cross-placed}
 
 -- ---- Booleans
 
@@ -84,7 +86,19 @@ labels-length a b (h ∷ hs) =
 
 -- ---- one cross of an accepted table
 
-module _ (s : List ℕ) (ok : accepted s ≡ true) (c : ℕ) (inside : c < length (tableOf s .crosses)) (cp bp kp : ℕ) (place : crossPlace s c ≡ placeOf cp bp kp) where
+module _ (s : List ℕ) (p : Place) (stands : Stands s p) where
+  abbrev c : ℕ
+  c = p .number
+
+  abbrev cp : ℕ
+  cp = p .cross
+
+  abbrev bp : ℕ
+  bp = p .bins
+
+  abbrev kp : ℕ
+  kp = p .tokens
+
   abbrev T : Table
   T = tableOf s
 
@@ -92,7 +106,7 @@ module _ (s : List ℕ) (ok : accepted s ≡ true) (c : ℕ) (inside : c < lengt
   n = byte s (cp + 12)
 
   bins : crossAt T c .bins ≡ crossBinsAt s bp kp (byte s (cp + 12))
-  bins = ap (λ (x : Cross). x .bins) (cross-at s ok c inside cp bp kp place)
+  bins = ap (λ (x : Cross). x .bins) (cross-placed s p stands .said)
 
   many : length (crossAt T c .bins) ≡ n
   many = ap length bins ∙ length-cross-bins s bp kp n
@@ -109,28 +123,26 @@ module _ (s : List ℕ) (ok : accepted s ≡ true) (c : ℕ) (inside : c < lengt
       (length-map (products T c) (product c) ∙ products-count T c)
 
   -- the elements of the cross's counters
-  module _ (counts : List ℕ) (told : take (pointTotal T) counts ≡ coverCounts T) where
-    pub labels-exact : (g : Counter → ℕ) (a b p : ℕ) → ((i : ℕ) → g (crossBin c i) ≡ a) → ((i : ℕ) → g (illegalCross c i) ≡ b) → ((cs : List CoverBin) → g (product c cs) ≡ p)
-        → map g (crossCounters T c) ≡ crossLabels s counts a b p cp bp
-    unfolding crossLabels
-    labels-exact g a b p e₁ e₂ e₃ =
-        ap (map g) counters-are ∙ map-append g (crossBinCounters c 0 (crossBinsAt s bp kp n)) (map (product c) (products T c))
-        ∙ ap₂ _++_ (bin-labels g c a b p e₁ e₂ s n 0 bp kp)
-        (product-labels g c a b p e₁ e₂ e₃ (products T c) ∙ ap (λ (k : ℕ). replicate k p) (products-count T c ∙ sym (products-at s ok c inside cp bp kp place counts told)))
+  pub labels-exact : (g : Counter → ℕ) (a b x : ℕ) → ((i : ℕ) → g (crossBin (p .number) i) ≡ a) → ((i : ℕ) → g (illegalCross (p .number) i) ≡ b) → ((cs : List CoverBin) → g (product (p .number) cs) ≡ x)
+      → map g (crossCounters (tableOf s) (p .number)) ≡ crossLabels s (productCount (tableOf s) (p .number)) a b x (p .cross) (p .bins)
+  unfolding crossLabels
+  labels-exact g a b x e₁ e₂ e₃ =
+      ap (map g) counters-are ∙ map-append g (crossBinCounters c 0 (crossBinsAt s bp kp n)) (map (product c) (products T c))
+      ∙ ap₂ _++_ (bin-labels g c a b x e₁ e₂ s n 0 bp kp) (product-labels g c a b x e₁ e₂ e₃ (products T c) ∙ ap (λ (k : ℕ). replicate k x) (products-count T c))
 
-    pub length-labels : (a b p : ℕ) → length (crossLabels s counts a b p cp bp) ≡ length (crossCounters T c)
-    unfolding crossLabels
-    length-labels a b p =
-        length-append (binLabels a b (headsAt s bp n)) (replicate (productsAt s counts cp) p)
-        ∙ ap₂ _+_ (labels-length a b (headsAt s bp n)) (length-replicate (productsAt s counts cp) p ∙ products-at s ok c inside cp bp kp place counts told)
-        ∙ sym counters-length
+  pub length-labels : (a b x : ℕ) → length (crossLabels s (productCount (tableOf s) (p .number)) a b x (p .cross) (p .bins)) ≡ length (crossCounters (tableOf s) (p .number))
+  unfolding crossLabels
+  length-labels a b x =
+      length-append (binLabels a b (headsAt s bp n)) (replicate (productCount T c) x)
+      ∙ ap₂ _+_ (labels-length a b (headsAt s bp n)) (length-replicate (productCount T c) x)
+      ∙ sym counters-length
 
   pub length-flags : (w : List ℕ) (total : Bool) (hs ms : List ℕ) → length hs ≡ productCount T c → length ms ≡ productCount T c → length (crossFlags s w total cp bp hs ms) ≡ length (crossCounters T c)
   unfolding crossFlags productFlags
   length-flags w total hs ms eh em =
       let live = passes w total (guardFrom (byte s (cp + 5))) in
-      length-append (binFlags w total live (ownMarks (maskOf (headsAt s bp n)) ms) (everyMark total ms) (headsAt s bp n)) _
-      ∙ ap₂ _+_ (flags-length w total live (ownMarks (maskOf (headsAt s bp n)) ms) (everyMark total ms) (headsAt s bp n)) (pair-length (productFlag live) hs ms (omega (arith, em, eh)) ∙ eh)
+      length-append (binFlags w total live (ownMarks (maskOf (headsAt s bp n)) hs ms) (everyMark total hs ms) (headsAt s bp n)) _
+      ∙ ap₂ _+_ (flags-length w total live (ownMarks (maskOf (headsAt s bp n)) hs ms) (everyMark total hs ms) (headsAt s bp n)) (pair-length (productFlag live) hs ms (omega (arith, em, eh)) ∙ eh)
       ∙ sym counters-length
 
   -- ---- the cross's bins by number
@@ -206,68 +218,69 @@ module _ (s : List ℕ) (ok : accepted s ≡ true) (c : ℕ) (inside : c < lengt
   sel-at cs i h = bits-at (sel cs) 0 L i (omega (arith, many)) ∙ ap (sel cs) (let z : 0 + i ≡ i = omega arith in z)
 
   module _ (f : CoverBin → Bool) where
-    own-one : (i : ℕ) → i < n → (cs : List CoverBin) → bit i (ownMark mask (productMark T c f cs)) ≡ (owns T c i cs && all f cs)
-    unfolding productMark
+    own-one : (i : ℕ) → i < n → (cs : List CoverBin) → bit i (ownMark mask (asBit (all f cs)) (crossMark T c cs)) ≡ (owns T c i cs && all f cs)
+    unfolding crossMark
     own-one i h cs = go (all f cs)
       where
         left : (x : Bool) → bit i (cond (not x) (bitsFrom (sel cs) 0 L) 0) ≡ ((sel cs i && not x) && true)
         left true = bit-zero i ∙ sym (ap (_&& true) (and-false (sel cs i)))
         left false = sel-at cs i h ∙ sym (and-true (sel cs i && true) ∙ and-true (sel cs i))
 
-        go : (b : Bool) → bit i (ownMark mask (cond b (bitsFrom (sel cs) 0 L) 0)) ≡ (owns T c i cs && b)
+        go : (b : Bool) → bit i (ownMark mask (asBit b) (bitsFrom (sel cs) 0 L)) ≡ (owns T c i cs && b)
         go true = ap (λ (x : Bool). bit i (cond x (bitsFrom (sel cs) 0 L) 0)) (excluded-bits cs) ∙ left (excludedProduct T c cs)
         go false = bit-zero i ∙ sym (and-false (owns T c i cs))
 
-    every-one : (i : ℕ) → i < n → (cs : List CoverBin) → bit i (ownMark 0 (productMark T c f cs)) ≡ (sel cs i && all f cs)
-    unfolding productMark
+    every-one : (i : ℕ) → i < n → (cs : List CoverBin) → bit i (ownMark 0 (asBit (all f cs)) (crossMark T c cs)) ≡ (sel cs i && all f cs)
+    unfolding crossMark
     every-one i h cs = go (all f cs)
       where
-        go : (b : Bool) → bit i (ownMark 0 (cond b (bitsFrom (sel cs) 0 L) 0)) ≡ (sel cs i && b)
+        go : (b : Bool) → bit i (ownMark 0 (asBit b) (bitsFrom (sel cs) 0 L)) ≡ (sel cs i && b)
         go true = ap (λ (x : ℕ). bit i (cond (eqb x 0) (bitsFrom (sel cs) 0 L) 0)) (and-zero-r (bitsFrom (sel cs) 0 L)) ∙ sel-at cs i h ∙ sym (and-true (sel cs i))
         go false = bit-zero i ∙ sym (and-false (sel cs i))
 
-    marks-bit : (i k : ℕ) (h : List CoverBin → Bool) → ((cs : List CoverBin) → bit i (ownMark k (productMark T c f cs)) ≡ h cs) → bit i (ownMarks k (productMarks T c f)) ≡ any h (products T c)
-    unfolding ownMarks productMarks
+    marks-bit : (i k : ℕ) (h : List CoverBin → Bool) → ((cs : List CoverBin) → bit i (ownMark k (asBit (all f cs)) (crossMark T c cs)) ≡ h cs)
+        → bit i (ownMarks k (productHits T c f) (crossMarks T c)) ≡ any h (products T c)
+    unfolding ownMarks productHits crossMarks
     marks-bit i k h e =
-        ap (λ (ms : List ℕ). bit i (orAll ms)) (map-map (ownMark k) (productMark T c f) (λ cs. ownMark k (productMark T c f cs)) (λ cs. refl) (products T c))
-        ∙ bit-orAll i (λ cs. ownMark k (productMark T c f cs)) (products T c)
-        ∙ any-cong (λ cs. bit i (ownMark k (productMark T c f cs))) h (products T c) e
+        ap (λ (ms : List ℕ). bit i (orAll ms)) (pair-map (ownMark k) (λ cs. asBit (all f cs)) (crossMark T c) (products T c))
+        ∙ bit-orAll i (λ cs. ownMark k (asBit (all f cs)) (crossMark T c cs)) (products T c)
+        ∙ any-cong (λ cs. bit i (ownMark k (asBit (all f cs)) (crossMark T c cs))) h (products T c) e
 
-    product-one : (live : Bool) (cs : List CoverBin) → productFlag live (asBit (all f cs)) (productMark T c f cs) ≡ asBit ((live && all f cs) && not (selected T c cs))
-    unfolding productMark
+    product-one : (live : Bool) (cs : List CoverBin) → productFlag live (asBit (all f cs)) (crossMark T c cs) ≡ asBit ((live && all f cs) && not (selected T c cs))
+    unfolding crossMark
     product-one live cs = go (all f cs)
       where
-        go : (b : Bool) → asBit (live && (eqb (asBit b) 1 && eqb (cond b (bitsFrom (sel cs) 0 L) 0) 0)) ≡ asBit ((live && b) && not (selected T c cs))
+        go : (b : Bool) → asBit (live && (eqb (asBit b) 1 && eqb (bitsFrom (sel cs) 0 L) 0)) ≡ asBit ((live && b) && not (selected T c cs))
         go true = ap (λ (x : Bool). asBit (live && x)) (selected-bits cs) ∙ ap (λ (x : Bool). asBit (x && not (selected T c cs))) (sym (and-true live))
         go false = ap asBit (and-false live) ∙ sym (ap (λ (x : Bool). asBit (x && not (selected T c cs))) (and-false live))
 
     product-all : (live : Bool) (g : Counter → ℕ) → ((cs : List CoverBin) → g (product c cs) ≡ asBit ((live && all f cs) && not (selected T c cs)))
-        → map g (map (product c) (products T c)) ≡ productFlags live (productHits T c f) (productMarks T c f)
-    unfolding productFlags productHits productMarks
+        → map g (map (product c) (products T c)) ≡ productFlags live (productHits T c f) (crossMarks T c)
+    unfolding productFlags productHits crossMarks
     product-all live g e =
-        map-map g (product c) (λ cs. productFlag live (asBit (all f cs)) (productMark T c f cs)) (λ cs. e cs ∙ sym (product-one live cs)) (products T c)
-        ∙ sym (pair-map (productFlag live) (λ cs. asBit (all f cs)) (productMark T c f) (products T c))
+        map-map g (product c) (λ cs. productFlag live (asBit (all f cs)) (crossMark T c cs)) (λ cs. e cs ∙ sym (product-one live cs)) (products T c)
+        ∙ sym (pair-map (productFlag live) (λ cs. asBit (all f cs)) (crossMark T c) (products T c))
 
     -- bins and products together
     both : (w : List ℕ) (total live : Bool) (own every : ℕ) (g : Counter → ℕ)
         → ((j : ℕ) → j < n → g (crossBin c j) ≡ asBit ((live && passes w total (crossBinAt T c j .guard)) && bit j own))
         → ((j : ℕ) → j < n → g (illegalCross c j) ≡ asBit ((live && passes w total (crossBinAt T c j .guard)) && bit j every))
         → ((cs : List CoverBin) → g (product c cs) ≡ asBit ((live && all f cs) && not (selected T c cs)))
-        → map g (crossCounters T c) ≡ binFlags w total live own every (headsAt s bp n) ++ productFlags live (productHits T c f) (productMarks T c f)
+        → map g (crossCounters T c) ≡ binFlags w total live own every (headsAt s bp n) ++ productFlags live (productHits T c f) (crossMarks T c)
     both w total live own every g e₁ e₂ e₃ =
         ap (map g) counters-are ∙ map-append g (crossBinCounters c 0 (crossBinsAt s bp kp n)) (map (product c) (products T c))
         ∙ ap₂ _++_ (bin-flags w total live own every g e₁ e₂) (product-all live g e₃)
 
   -- ---- the model's flags
 
-  total-exact : (w : List ℕ) → totalFlags T (crossCounters T c) ≡ crossFlags s w true cp bp (productHits T c (hasValue T)) (productMarks T c (hasValue T))
+  total-exact : (w : List ℕ) → totalFlags T (crossCounters T c) ≡ crossFlags s w true cp bp (productHits T c (hasValue T)) (crossMarks T c)
   unfolding totalFlags crossFlags
-  total-exact w = both f w true true (ownMarks mask (productMarks T c f)) 0 (λ x. asBit (inTotal T x)) on-cover on-illegal on-product
+  total-exact w = both f w true true (ownMarks mask (productHits T c f) (crossMarks T c)) 0 (λ x. asBit (inTotal T x)) on-cover on-illegal on-product
     where
       f : CoverBin → Bool
       f = hasValue T
 
-      on-cover : (j : ℕ) → j < n → asBit (inTotal T (crossBin c j)) ≡ asBit (bit j (ownMarks mask (productMarks T c (hasValue T))))
+      on-cover : (j : ℕ) → j < n → asBit (inTotal T (crossBin c j)) ≡ asBit (bit j (ownMarks mask (productHits T c (hasValue T)) (crossMarks T c)))
       on-cover j h = unfold inTotal in (ap asBit (sym (marks-bit (hasValue T) j mask (λ cs. owns T c j cs && all (hasValue T) cs) (own-one (hasValue T) j h))))
 
       on-illegal : (j : ℕ) → j < n → asBit (inTotal T (illegalCross c j)) ≡ asBit (bit j 0)
@@ -276,12 +289,12 @@ module _ (s : List ℕ) (ok : accepted s ≡ true) (c : ℕ) (inside : c < lengt
       on-product : (cs : List CoverBin) → asBit (inTotal T (product c cs)) ≡ asBit (all (hasValue T) cs && not (selected T c cs))
       on-product cs = unfold inTotal in (ap asBit (and-comm (not (selected T c cs)) (all (hasValue T) cs)))
 
-  hits-exact : (w : List ℕ) (m : Stretches) → hitFlags T w m (crossCounters T c) ≡ crossFlags s w false cp bp (productHits T c (coverHit T w)) (productMarks T c (coverHit T w))
+  hits-exact : (w : List ℕ) (m : Stretches) → hitFlags T w m (crossCounters T c) ≡ crossFlags s w false cp bp (productHits T c (coverHit T w)) (crossMarks T c)
   unfolding hitFlags crossFlags
   hits-exact w m =
-      both f w false live (ownMarks mask (productMarks T c f)) (ownMarks 0 (productMarks T c f)) (λ x. asBit (hits T w m x)) on-cover on-illegal on-product
-      ∙ ap (λ (x : Bool). binFlags w false x (ownMarks mask (productMarks T c f)) (ownMarks 0 (productMarks T c f)) (headsAt s bp n) ++ productFlags x (productHits T c f) (productMarks T c f))
-      (ap (λ (x : Cross). guardTrue w (x .guard)) (cross-at s ok c inside cp bp kp place))
+      both f w false live (ownMarks mask (productHits T c f) (crossMarks T c)) (ownMarks 0 (productHits T c f) (crossMarks T c)) (λ x. asBit (hits T w m x)) on-cover on-illegal on-product
+      ∙ ap (λ (x : Bool). binFlags w false x (ownMarks mask (productHits T c f) (crossMarks T c)) (ownMarks 0 (productHits T c f) (crossMarks T c)) (headsAt s bp n) ++ productFlags x (productHits T c f) (crossMarks T c))
+      (ap (λ (x : Cross). guardTrue w (x .guard)) (cross-placed s p stands .said))
     where
       f : CoverBin → Bool
       f = coverHit T w
@@ -289,14 +302,14 @@ module _ (s : List ℕ) (ok : accepted s ≡ true) (c : ℕ) (inside : c < lengt
       live : Bool
       live = guardTrue w (crossAt T c .guard)
 
-      on-cover : (j : ℕ) → j < n → asBit (hits T w m (crossBin c j)) ≡ asBit ((live && passes w false (crossBinAt T c j .guard)) && bit j (ownMarks mask (productMarks T c f)))
+      on-cover : (j : ℕ) → j < n → asBit (hits T w m (crossBin c j)) ≡ asBit ((live && passes w false (crossBinAt T c j .guard)) && bit j (ownMarks mask (productHits T c f) (crossMarks T c)))
       on-cover j h = unfold hits productHit in
           (ap asBit
           (ap (guardTrue w (crossBinAt T c j .guard) &&_) (any-out (owns T c j) (all f) live (products T c))
           ∙ guarded (guardTrue w (crossBinAt T c j .guard)) live (any (λ cs. owns T c j cs && all f cs) (products T c))
           ∙ ap ((live && passes w false (crossBinAt T c j .guard)) &&_) (sym (marks-bit f j mask (λ cs. owns T c j cs && all f cs) (own-one f j h)))))
 
-      on-illegal : (j : ℕ) → j < n → asBit (hits T w m (illegalCross c j)) ≡ asBit ((live && passes w false (crossBinAt T c j .guard)) && bit j (ownMarks 0 (productMarks T c f)))
+      on-illegal : (j : ℕ) → j < n → asBit (hits T w m (illegalCross c j)) ≡ asBit ((live && passes w false (crossBinAt T c j .guard)) && bit j (ownMarks 0 (productHits T c f) (crossMarks T c)))
       on-illegal j h = unfold hits productHit in
           (ap asBit
           (ap (guardTrue w (crossBinAt T c j .guard) &&_) (any-out (λ cs. sel cs j) (all f) live (products T c))
@@ -307,6 +320,6 @@ module _ (s : List ℕ) (ok : accepted s ≡ true) (c : ℕ) (inside : c < lengt
       on-product cs = unfold hits productHit in refl
 
   pub flags-exact : (w : List ℕ) (total : Bool) (m : Stretches)
-      → flagsOf total T w m (crossCounters T c) ≡ crossFlags s w total cp bp (productHits T c (gateOf total T w)) (productMarks T c (gateOf total T w))
+      → flagsOf total T w m (crossCounters T c) ≡ crossFlags s w total cp bp (productHits T c (gateOf total T w)) (crossMarks T c)
   flags-exact w true m = total-exact w
   flags-exact w false m = hits-exact w m

@@ -2,25 +2,23 @@
 -- Assumes nothing.
 use mathlib.Core.Path.{_≡_, refl, sym, ap, ap₂, _∙_}
 use mathlib.Core.Bool.{Bool, _&&_}
-use mathlib.Core.List.{List, [], _∷_, _++_, map}
+use mathlib.Core.List.{List, [], _∷_, _++_}
 use Prim.Native.Nat.{ℕ, zero, suc, _+_, _-_, _*_, _/_, _^_, _≤_, _<_}
-use native.Mathlib.Nat.{pow-suc, pow-le-pow-right, mul-assoc, mul-le-mul, zero-lt-suc}
-use native.Mathlib.Numerals.{add-one}
+use native.Mathlib.Nat.{pow-suc}
 use native.Mathlib.Omega.{arith}
 use lib.Bits.{bitOr}
 use lib.Pow.{pow-mono}
 use lib.ListN.{length, getD, take, drop, set, replicate, length-append, length-take, drop-of-length-le}
 use lib.Seq.{length-take-le}
-use Rattle.model.specs.Lists.{upFrom, sumOf, pairUp, asBit, orAll}
+use Rattle.model.specs.Lists.{sumOf, pairUp, asBit, orAll}
 use Rattle.model.specs.Table.{excludes}
-use Rattle.model.specs.Counters.{productOf}
 use Rattle.model.specs.Format.{byte, kindFrom, guardFrom, CrossBinHead, crossBinHead, tokensOf}
 use Rattle.model.specs.Raw.{tokenTotal}
 use Rattle.model.proofs.RawLaws.{length-rows, rows-turn, rows-start, rows-end}
-use Rattle.model.proofs.Lists.{one-left, taken-turn, pair-length}
+use Rattle.model.proofs.Lists.{taken-turn, pair-length}
 use Rattle.model.proofs.RunBits.{asBit-le}
 use Rattle.crosses.specs.Flags.{passes, headsAt, maskOf, ownMark, ownMarks, isOdd, labelOf, binFlags, productFlag, productFlags, everyMark, crossFlags}
-use Rattle.crosses.specs.Labels.{binLabels, countAt, productsAt, crossLabels}
+use Rattle.crosses.specs.Labels.{binLabels, crossLabels}
 use Rattle.arrays.specs.Put.{put}
 use Rattle.arrays.proofs.PutLaws.{put-nil, put-cons}
 
@@ -74,19 +72,21 @@ mask-done s b n i m e em = em ∙ ap (λ (j : ℕ). maskOf (headsAt s (b + 3 * j
 taken-end : (n i : ℕ) (xs : List ℕ) → n ≤ i → drop i (take n xs) ≡ []
 taken-end n i xs h = let k : length (take n xs) ≤ i = simp length-take (omega arith) in drop-of-length-le (take n xs) k
 
-pub own-none : (mask n : ℕ) (ms : List ℕ) → 0 ≡ ownMarks mask (drop n (take n ms))
-unfolding ownMarks orAll
-own-none mask n ms = sym (ap (ownMarks mask) (taken-end n n ms (omega arith)))
+pub own-none : (mask n : ℕ) (hs ms : List ℕ) → 0 ≡ ownMarks mask (drop n (take n hs)) (drop n (take n ms))
+unfolding ownMarks orAll pairUp
+own-none mask n hs ms = sym (ap (λ (xs : List ℕ). ownMarks mask xs (drop n (take n ms))) (taken-end n n hs (omega arith)))
 
-pub own-back : (mask n i m own : ℕ) (ms : List ℕ) → 0 < i → i ≤ n → n ≤ length ms → m ≡ ownMark mask (getD ms (i - 1) 0) → own ≡ ownMarks mask (drop i (take n ms))
-    → bitOr m own ≡ ownMarks mask (drop (i - 1) (take n ms))
-unfolding ownMarks orAll
-own-back mask n i m own ms h g k em eo =
-    sym (ap (ownMarks mask) (taken-turn n (i - 1) ms 0 (omega arith) k ∙ ap (λ (j : ℕ). getD ms (i - 1) 0 ∷ drop j (take n ms)) (back i h))
-    ∙ ap₂ bitOr (sym em) (sym eo))
+pub own-back : (mask n i m own : ℕ) (hs ms : List ℕ) → 0 < i → i ≤ n → n ≤ length hs → n ≤ length ms → m ≡ ownMark mask (getD hs (i - 1) 0) (getD ms (i - 1) 0)
+    → own ≡ ownMarks mask (drop i (take n hs)) (drop i (take n ms)) → bitOr m own ≡ ownMarks mask (drop (i - 1) (take n hs)) (drop (i - 1) (take n ms))
+unfolding ownMarks orAll pairUp
+own-back mask n i m own hs ms h g k l em eo =
+    sym (ap₂ (ownMarks mask) (turn hs k) (turn ms l) ∙ ap₂ bitOr (sym em) (sym eo))
+  where
+    turn : (xs : List ℕ) → n ≤ length xs → drop (i - 1) (take n xs) ≡ getD xs (i - 1) 0 ∷ drop i (take n xs)
+    turn xs k = taken-turn n (i - 1) xs 0 (omega arith) k ∙ ap (λ (j : ℕ). getD xs (i - 1) 0 ∷ drop j (take n xs)) (back i h)
 
-pub own-done : (mask n i own : ℕ) (ms : List ℕ) → i ≡ 0 → own ≡ ownMarks mask (drop i (take n ms)) → own ≡ ownMarks mask (take n ms)
-own-done mask n i own ms e eo = eo ∙ ap (λ (j : ℕ). ownMarks mask (drop j (take n ms))) e
+pub own-done : (mask n i own : ℕ) (hs ms : List ℕ) → i ≡ 0 → own ≡ ownMarks mask (drop i (take n hs)) (drop i (take n ms)) → own ≡ ownMarks mask (take n hs) (take n ms)
+own-done mask n i own hs ms e eo = eo ∙ ap (λ (j : ℕ). ownMarks mask (drop j (take n hs)) (drop j (take n ms))) e
 
 -- ---- the flags of the bins
 
@@ -127,7 +127,7 @@ products-end live n i hs ms h = ap (λ (xs : List ℕ). productFlags live xs (dr
 
 module _ (s w : List ℕ) (total : Bool) (cp bp n : ℕ) (hs ms : List ℕ) (g k mask own every : ℕ) (live : Bool)
     (eg : g ≡ byte s (cp + 5)) (ek : k ≡ byte s (cp + 12)) (el : live ≡ passes w total (guardFrom g)) (em : mask ≡ maskOf (headsAt s bp k))
-    (eo : own ≡ ownMarks mask (take n ms)) (ee : every ≡ everyMark total (take n ms)) where
+    (eo : own ≡ ownMarks mask (take n hs) (take n ms)) (ee : every ≡ everyMark total (take n hs) (take n ms)) where
   pub cross-parts : crossFlags s w total cp bp (take n hs) (take n ms) ≡ binFlags w total live own every (headsAt s bp k) ++ productFlags live (take n hs) (take n ms)
   unfolding crossFlags
   cross-parts = rw (eo, ee, em, el, eg, ek)
@@ -151,41 +151,9 @@ module _ (a a′ : ℕ) (s : List ℕ) (b n : ℕ) where
   unfolding binLabels
   labels-end i h = ap (binLabels a a′) (rows-end (crossBinHead s []) 3 (b + 3 * i) n i h)
 
-pub labels-parts : (s counts : List ℕ) (a b p cp bp k n : ℕ) → k ≡ byte s (cp + 12) → n ≡ productsAt s counts cp → crossLabels s counts a b p cp bp ≡ binLabels a b (headsAt s bp k) ++ replicate n p
+pub labels-parts : (s : List ℕ) (a b p cp bp k n m : ℕ) → k ≡ byte s (cp + 12) → n ≡ m → crossLabels s m a b p cp bp ≡ binLabels a b (headsAt s bp k) ++ replicate n p
 unfolding crossLabels
-labels-parts s counts a b p cp bp k n ek en = rw (ek, en)
-
--- ---- the number of products
-
-abbrev pub pointsFrom : List ℕ → ℕ → ℕ → ℕ → List ℕ
-pointsFrom s cp i m = map (λ j. byte s (cp + 1 + j)) (upFrom i m)
-
-module _ (s counts : List ℕ) (cp n : ℕ) where
-  abbrev pub productFrom : ℕ → ℕ
-  productFrom i = productOf (countAt counts) (pointsFrom s cp i (n - i))
-
-  pub product-start : n ≡ byte s cp → productsAt s counts cp ≡ 1 * productFrom 0
-  unfolding productsAt
-  product-start e =
-      ap (λ (m : ℕ). productOf (countAt counts) (pointsFrom s cp 0 m)) (sym e ∙ (let z : n ≡ n - 0 = omega arith in z)) ∙ (let z : productFrom 0 ≡ 1 * productFrom 0 = omega arith in z)
-
-  pub product-turn : (i k p product : ℕ) → i < n → p ≡ byte s (cp + 1 + i) → k ≡ countAt counts p → product * productFrom i ≡ product * k * productFrom (i + 1)
-  unfolding productOf upFrom
-  product-turn i k p product h ep ek =
-      ap (product *_)
-      (ap (λ (m : ℕ). productOf (countAt counts) (pointsFrom s cp i m)) (one-left n i h)
-      ∙ ap₂ (λ (x j : ℕ). x * productOf (countAt counts) (pointsFrom s cp j (n - (i + 1)))) (sym (ek ∙ ap (countAt counts) ep)) (sym (add-one i)))
-      ∙ sym (mul-assoc product k (productFrom (i + 1)))
-
-  pub product-end : (i product : ℕ) → n ≤ i → product * productFrom i ≡ product
-  unfolding productOf upFrom
-  product-end i product h = ap (λ (m : ℕ). product * productOf (countAt counts) (pointsFrom s cp i m)) (let z : n - i ≡ 0 = omega arith in z) ∙ (let z : product * 1 ≡ product = omega arith in z)
-
-pub power-turn : (i k product : ℕ) → product ≤ 65535 ^ i → k ≤ 65535 → product * k ≤ 65535 ^ (i + 1)
-power-turn i k product h g = let z : product * k ≤ 65535 ^ i * 65535 = mul-le-mul h g in omega (arith, z, ap (65535 ^_) (add-one i) ∙ pow-suc 65535 i)
-
-pub power-small : (i : ℕ) → i ≤ 4 → 65535 ^ i ≤ 18446744073709551615
-power-small i h = let z : 65535 ^ i ≤ 65535 ^ 4 = pow-le-pow-right (zero-lt-suc 65534) h in omega arith
+labels-parts s a b p cp bp k n m ek en = rw (ek, en)
 
 -- ---- the number of tokens
 

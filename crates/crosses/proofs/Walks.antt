@@ -6,33 +6,18 @@ use mathlib.Core.List.{List, [], _++_, map, map-append}
 use Prim.Native.Nat.{ℕ, _+_, _-_, _≤_, _<_}
 use native.Mathlib.Omega.{arith}
 use native.Mathlib.Numerals.{add-one}
-use lib.ListN.{length, take, length-append, length-map}
+use lib.ListN.{length, length-append, length-map}
 use Rattle.model.specs.Lists.{upFrom, concatOf, asBit}
 use Rattle.model.specs.Table.{Table}
-use Rattle.model.specs.Counters.{CoverBin, Counter, crossCounters, products, productCount}
+use Rattle.model.specs.Counters.{Counter, crossCounters}
 use Rattle.model.specs.Sampling.{Stretches, hits}
 use Rattle.model.specs.Figures.{inTotal}
-use Rattle.model.proofs.Limits.{products-count}
 use Rattle.model.proofs.Lists.{one-left}
 use Rattle.arrays.specs.Put.{put}
-use Rattle.arrays.specs.Flat.{hitFlags, totalFlags, productHits, productMark, productMarks, allCrossCounters}
-use Rattle.arrays.proofs.PutLaws.{part-put, put-nil}
+use Rattle.arrays.specs.Flat.{hitFlags, totalFlags, allCrossCounters}
+use Rattle.arrays.proofs.PutLaws.{put-nil}
 use Rattle.arrays.proofs.Written.{put-turn}
 use Rattle.crosses.specs.Flags.{flagsOf}
-
--- ---- one cross
-
-pub length-hits : (t : Table) (c : ℕ) (f : CoverBin → Bool) → length (productHits t c f) ≡ productCount t c
-unfolding productHits
-length-hits t c f = length-map (products t c) _ ∙ products-count t c
-
-pub length-marks : (t : Table) (c : ℕ) (f : CoverBin → Bool) → length (productMarks t c f) ≡ productCount t c
-unfolding productMarks
-length-marks t c f = length-map (products t c) (productMark t c f) ∙ products-count t c
-
--- what stands in front after it was written there
-pub front : (n : ℕ) (xs l l′ : List ℕ) → l′ ≡ put 0 xs l → length xs ≡ n → n ≤ length l → take n l′ ≡ xs
-front n xs l l′ e k h = ap (take n) e ∙ part-put 0 n xs l k (omega arith)
 
 abbrev flagBy : Bool → Table → List ℕ → Stretches → Counter → ℕ
 flagBy true t w m c = asBit (inTotal t c)

@@ -11,7 +11,7 @@ use Rattle.model.specs.Counters.{CoverBin, Counter, hasValue}
 use Rattle.model.specs.Sampling.{guardTrue, coverHit, Stretches}
 use Rattle.model.specs.Format.{byte, guardFrom, CrossBinHead, crossBinHead}
 use Rattle.model.specs.Raw.{rows}
-use Rattle.arrays.specs.Flat.{CrossPlace, hitFlags, totalFlags}
+use Rattle.arrays.specs.Flat.{hitFlags, totalFlags}
 
 -- ---- which flags: those of a sample, or those of the total
 
@@ -30,9 +30,6 @@ passes w total g = total || guardTrue w g
 
 -- ---- a cross's bins
 
-abbrev pub placeOf : ℕ → ℕ → ℕ → CrossPlace
-placeOf cp bp kp = record { cross = cp; bins = bp; tokens = kp }
-
 -- n bins from b on, without their expressions
 abbrev pub headsAt : List ℕ → ℕ → ℕ → List CrossBinHead
 headsAt s b n = rows (crossBinHead s []) 3 b n
@@ -42,12 +39,12 @@ unfoldable pub maskOf : List CrossBinHead → ℕ
 maskOf [] = 0
 maskOf (h ∷ hs) = maskOf hs * 2 + asBit (excludes (h .kind))
 
--- a product's mark, if no bin of the mask selects it; those of some products, or-ed
-abbrev pub ownMark : ℕ → ℕ → ℕ
-ownMark mask m = cond (eqb (bitAnd m mask) 0) m 0
+-- a product's mark, if the product is hit and no bin of the mask selects it; those of some products, or-ed
+abbrev pub ownMark : ℕ → ℕ → ℕ → ℕ
+ownMark mask hit mark = cond (eqb hit 1 && eqb (bitAnd mark mask) 0) mark 0
 
-unfoldable pub ownMarks : ℕ → List ℕ → ℕ
-ownMarks mask ms = orAll (map (ownMark mask) ms)
+unfoldable pub ownMarks : ℕ → List ℕ → List ℕ → ℕ
+ownMarks mask hits marks = orAll (pairUp (ownMark mask) hits marks)
 
 abbrev pub isOdd : ℕ → Bool
 isOdd n = eqb (n % 2) 1
@@ -77,11 +74,11 @@ productFlags live hits marks = pairUp (productFlag live) hits marks
 
 -- ---- both: the cross's record stands at cp, its bins from bp on
 
-abbrev pub everyMark : Bool → List ℕ → ℕ
-everyMark total marks = cond total 0 (ownMarks 0 marks)
+abbrev pub everyMark : Bool → List ℕ → List ℕ → ℕ
+everyMark total hits marks = cond total 0 (ownMarks 0 hits marks)
 
 unfoldable pub crossFlags : List ℕ → List ℕ → Bool → ℕ → ℕ → List ℕ → List ℕ → List ℕ
 crossFlags s w total cp bp hits marks =
     let live = passes w total (guardFrom (byte s (cp + 5))) in
     let bins = headsAt s bp (byte s (cp + 12)) in
-    binFlags w total live (ownMarks (maskOf bins) marks) (everyMark total marks) bins ++ productFlags live hits marks
+    binFlags w total live (ownMarks (maskOf bins) hits marks) (everyMark total hits marks) bins ++ productFlags live hits marks

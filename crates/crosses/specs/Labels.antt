@@ -4,25 +4,18 @@ use Prim.Native.Nat.{ℕ, _+_}
 use mathlib.Core.Path.{_≡_}
 use mathlib.Core.Bool.{Bool, cond}
 use mathlib.Core.List.{List, [], _∷_, _++_}
-use lib.ListN.{getD, replicate}
-use Rattle.model.specs.Counters.{CoverBin, Counter, crossBin, illegalCross, product, productOf}
-use Rattle.model.specs.Format.{byte, CrossBinHead, crossPoints}
+use lib.ListN.{replicate}
+use Rattle.model.specs.Counters.{CoverBin, Counter, crossBin, illegalCross, product}
+use Rattle.model.specs.Format.{byte, CrossBinHead}
 use Rattle.crosses.specs.Flags.{labelOf, headsAt}
 
 unfoldable pub binLabels : ℕ → ℕ → List CrossBinHead → List ℕ
 binLabels a b [] = []
 binLabels a b (h ∷ hs) = labelOf a b (h .kind) ++ binLabels a b hs
 
--- how many products the cross at cp has; `counts` has each point's number of cover bins
-abbrev pub countAt : List ℕ → ℕ → ℕ
-countAt counts p = getD counts p 0
-
-unfoldable pub productsAt : List ℕ → List ℕ → ℕ → ℕ
-productsAt s counts cp = productOf (countAt counts) (crossPoints s cp)
-
--- the cross whose record stands at cp, its bins from bp on
-unfoldable pub crossLabels : List ℕ → List ℕ → ℕ → ℕ → ℕ → ℕ → ℕ → List ℕ
-crossLabels s counts a b p cp bp = binLabels a b (headsAt s bp (byte s (cp + 12))) ++ replicate (productsAt s counts cp) p
+-- the cross whose record stands at cp, its bins from bp on, with n products
+unfoldable pub crossLabels : List ℕ → ℕ → ℕ → ℕ → ℕ → ℕ → ℕ → List ℕ
+crossLabels s n a b p cp bp = binLabels a b (headsAt s bp (byte s (cp + 12))) ++ replicate n p
 
 -- the cross's number where each cross has elements of its own, else 0
 abbrev pub shift : Bool → ℕ → ℕ

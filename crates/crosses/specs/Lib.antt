@@ -1,3 +1,4 @@
 -- The definitions that the contracts cite.
+pub mod Order
 pub mod Flags
 pub mod Labels

@@ -14,6 +14,26 @@ ghost use Rattle.model.specs.Format.{byte, kindFrom, guardFrom};
 ghost use Rattle.arrays.specs.Put.{put};
 ghost use Rattle.crosses.specs.Flags.{passes, headsAt, isOdd, labelOf, binFlags, productFlags, crossFlags};
 
+// Where the flags begin, and which they are: those of the total, or those of a sample.
+pub struct Ask {
+    pub at: usize,
+    pub total: bool,
+}
+
+// Where a cross's record stands, where its bins begin, and how many products it has.
+pub struct Rows {
+    pub cross: usize,
+    pub bins: usize,
+    pub products: usize,
+}
+
+// Whether a cross's guard holds, and which of its bins have a product that counts: bit i of `own` for cover bin i, bit i of `every` for illegal bin i.
+pub struct Raised {
+    pub live: bool,
+    pub own: u16,
+    pub every: u16,
+}
+
 // The guard g holds, or need not.
 fn passing(sample: &[u32], total: bool, g: u8) -> bool
     ensures { λ r. ⌜ r ≡ passes (now (sample .entry)) total (guardFrom g) ⌝ }
@@ -47,22 +67,21 @@ fn flag_of(on: bool, word: u16) -> u8
 // The flags of n bins from b on.
 fn put_bins(
     flags: &mut [u8],
-    cur: usize,
     t: &[u8],
     sample: &[u32],
-    total: bool,
-    live: bool,
-    own: u16,
-    every: u16,
+    ask: Ask,
+    r: Raised,
     b: usize,
     n: usize,
 ) -> usize
-    requires { ⌜ (b < 1000000000000) × (n < 256) × (cur + length (binFlags (now sample) total live own every (headsAt (now t) b n)) ≤ length (now flags)) ⌝ }
-    ensures { λ r. ⌜ (r ≡ cur + length (binFlags (now (sample .entry)) total live own every (headsAt (now (t .entry)) b n))) × (now (flags .exit) ≡ put cur (binFlags (now (sample .entry)) total live own every (headsAt (now (t .entry)) b n)) (now (flags .entry))) ⌝ }
+    requires { ⌜ (b < 1000000000000) × (n < 256) × (ask .at + length (binFlags (now sample) (ask .total) (r .live) (r .own) (r .every) (headsAt (now t) b n)) ≤ length (now flags)) ⌝ }
+    ensures { λ e. ⌜ (e ≡ ask .at + length (binFlags (now (sample .entry)) (ask .total) (r .live) (r .own) (r .every) (headsAt (now (t .entry)) b n))) × (now (flags .exit) ≡ put (ask .at) (binFlags (now (sample .entry)) (ask .total) (r .live) (r .own) (r .every) (headsAt (now (t .entry)) b n)) (now (flags .entry))) ⌝ }
 {
-    let mut at = cur;
-    let mut x = own;
-    let mut y = every;
+    let total = ask.total;
+    let live = r.live;
+    let mut at = ask.at;
+    let mut x = r.own;
+    let mut y = r.every;
     let mut i = 0;
     while i < n {
         let here = b + 3 * i;
@@ -96,27 +115,31 @@ fn put_products(
     cur + n
 }
 
-// The flags of the cross whose record stands at cp and whose bins stand from bp on; n products.
+// The flags of a cross, from its products' hits and marks.
 pub fn put_cross(
     flags: &mut [u8],
-    cur: usize,
     t: &[u8],
     sample: &[u32],
-    total: bool,
-    cp: usize,
-    bp: usize,
     hits: &[u8],
     marks: &[u16],
-    n: usize,
+    ask: Ask,
+    x: Rows,
 ) -> usize
-    requires { ⌜ (cp < 1000000000000) × (bp < 1000000000000) × (byte (now t) (cp + 12) ≤ 16) ⌝ }
-    requires { ⌜ (n ≤ length (now hits)) × (n ≤ length (now marks)) × (cur + length (crossFlags (now t) (now sample) total cp bp (take n (now hits)) (take n (now marks))) ≤ length (now flags)) ⌝ }
-    ensures { λ r. ⌜ (r ≡ cur + length (crossFlags (now (t .entry)) (now (sample .entry)) total cp bp (take n (now (hits .entry))) (take n (now (marks .entry))))) × (now (flags .exit) ≡ put cur (crossFlags (now (t .entry)) (now (sample .entry)) total cp bp (take n (now (hits .entry))) (take n (now (marks .entry)))) (now (flags .entry))) ⌝ }
+    requires { ⌜ (x .cross < 1000000000000) × (x .bins < 1000000000000) × (byte (now t) (x .cross + 12) ≤ 16) ⌝ }
+    requires { ⌜ (x .products ≤ length (now hits)) × (x .products ≤ length (now marks)) × (ask .at + length (crossFlags (now t) (now sample) (ask .total) (x .cross) (x .bins) (take (x .products) (now hits)) (take (x .products) (now marks))) ≤ length (now flags)) ⌝ }
+    ensures { λ r. ⌜ (r ≡ ask .at + length (crossFlags (now (t .entry)) (now (sample .entry)) (ask .total) (x .cross) (x .bins) (take (x .products) (now (hits .entry))) (take (x .products) (now (marks .entry))))) × (now (flags .exit) ≡ put (ask .at) (crossFlags (now (t .entry)) (now (sample .entry)) (ask .total) (x .cross) (x .bins) (take (x .products) (now (hits .entry))) (take (x .products) (now (marks .entry)))) (now (flags .entry))) ⌝ }
 {
+    let cp = x.cross;
+    let bp = x.bins;
+    let n = x.products;
+    let total = ask.total;
     let k = byte(t, cp + 12) as usize;
     let live = passing(sample, total, byte(t, cp + 5));
-    let own = own_marks(marks, n, mask_of(t, bp, k));
-    let every = every_mark(marks, n, total);
-    let at = put_bins(flags, cur, t, sample, total, live, own, every, bp, k);
+    let r = Raised {
+        live: live,
+        own: own_marks(hits, marks, n, mask_of(t, bp, k)),
+        every: every_mark(hits, marks, n, total),
+    };
+    let at = put_bins(flags, t, sample, ask, r, bp, k);
     put_products(flags, at, hits, marks, n, live)
 }

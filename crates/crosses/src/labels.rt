@@ -1,37 +1,31 @@
 // Elements that depend only on what a counter of a cross is, and on its cross: kinds and items.
 use crate::bins::put_label;
-use arrays::element;
+use crate::order::first_place;
+use crate::order::next_place;
 use arrays::put_same;
 use layout::layout_of;
+use products::places::Place;
+use products::places::shape_of;
 use words::bytes::byte;
 ghost use mathlib.Core.Path.{_≡_};
 ghost use mathlib.Core.Bool.{true};
 ghost use mathlib.Core.List.{map};
 ghost use Prim.Native.Nat.{ℕ, _<_, _≤_, _+_};
 ghost use lib.ListN.{length, take};
-ghost use Rattle.model.specs.Counters.{Counter};
+ghost use Rattle.model.specs.Counters.{Counter, productCount};
 ghost use Rattle.model.specs.Register.{pointTotal};
-ghost use Rattle.model.specs.Format.{byte, accepted, tableOf};
+ghost use Rattle.model.specs.Format.{accepted, tableOf};
 ghost use Rattle.arrays.specs.Put.{put};
 ghost use Rattle.arrays.specs.Flat.{coverCounts, kindsOf, itemsOf, allCrossCounters};
+ghost use Rattle.products.specs.Shapes.{Stands};
 ghost use Rattle.crosses.specs.Flags.{headsAt};
-ghost use Rattle.crosses.specs.Labels.{binLabels, productsAt, crossLabels, shift, Labels};
+ghost use Rattle.crosses.specs.Labels.{binLabels, crossLabels, shift, Labels};
 
-// How many products the cross at cp has.
-fn product_count(t: &[u8], cp: usize, counts: &[u16]) -> usize
-    requires { ⌜ (cp < 1000000000000) × (byte (now t) cp ≤ 4) ⌝ }
-    ensures { λ r. ⌜ r ≡ productsAt (now (t .entry)) (now (counts .entry)) cp ⌝ }
-{
-    let n = byte(t, cp) as usize;
-    let mut product: usize = 1;
-    let mut i = 0;
-    while i < n {
-        let p = byte(t, cp + 1 + i);
-        let k = element(counts, p as usize);
-        product = product * (k as usize);
-        i += 1;
-    }
-    product
+// What stands for a cover bin of a cross, for an illegal one, and for a product.
+pub struct Elements {
+    pub cover: u8,
+    pub illegal: u8,
+    pub product: u8,
 }
 
 // The elements of n bins from b on.
@@ -57,26 +51,25 @@ fn put_labels(
     at
 }
 
-// The elements of the cross whose record stands at cp and whose bins stand from bp on.
+// The elements of one cross.
 fn put_cross_labels(
     out: &mut [u8],
     cur: usize,
     t: &[u8],
     counts: &[u16],
-    cover: u8,
-    illegal: u8,
-    product: u8,
-    cp: usize,
-    bp: usize,
+    e: Elements,
+    p: Place,
 ) -> usize
-    requires { ⌜ (cp < 1000000000000) × (bp < 1000000000000) × (byte (now t) cp ≤ 4) ⌝ }
-    requires { ⌜ cur + length (crossLabels (now t) (now counts) cover illegal product cp bp) ≤ length (now out) ⌝ }
-    ensures { λ r. ⌜ (r ≡ cur + length (crossLabels (now (t .entry)) (now (counts .entry)) cover illegal product cp bp)) × (now (out .exit) ≡ put cur (crossLabels (now (t .entry)) (now (counts .entry)) cover illegal product cp bp) (now (out .entry))) ⌝ }
+    requires { ⌜ Stands (now t) p × (take (pointTotal (tableOf (now t))) (now counts) ≡ coverCounts (tableOf (now t))) ⌝ }
+    requires { ⌜ cur + length (crossLabels (now t) (productCount (tableOf (now t)) (p .number)) (e .cover) (e .illegal) (e .product) (p .cross) (p .bins)) ≤ length (now out) ⌝ }
+    ensures { λ r. ⌜ (r ≡ cur + length (crossLabels (now (t .entry)) (productCount (tableOf (now (t .entry))) (p .number)) (e .cover) (e .illegal) (e .product) (p .cross) (p .bins))) × (now (out .exit) ≡ put cur (crossLabels (now (t .entry)) (productCount (tableOf (now (t .entry))) (p .number)) (e .cover) (e .illegal) (e .product) (p .cross) (p .bins)) (now (out .entry))) ⌝ }
 {
-    let k = byte(t, cp + 12) as usize;
-    let n = product_count(t, cp, counts);
-    let at = put_labels(out, cur, t, bp, k, cover, illegal);
-    put_same(out, at, n, product)
+    let at = p.cross;
+    let bins = p.bins;
+    let k = byte(t, at + 12) as usize;
+    let s = shape_of(t, counts, p);
+    let next = put_labels(out, cur, t, bins, k, e.cover, e.illegal);
+    put_same(out, next, s.total, e.product)
 }
 
 fn shift_of(each: bool, c: usize) -> u8
@@ -86,43 +79,34 @@ fn shift_of(each: bool, c: usize) -> u8
     if each { c as u8 } else { 0 }
 }
 
-// The elements of all crosses.
+// The elements of all crosses, each moved on by the cross's number if `each` says so.
 fn put_all_labels(
     out: &mut [u8],
     cur: usize,
     t: &[u8],
     counts: &[u16],
-    cover: u8,
-    illegal: u8,
-    product: u8,
+    e: Elements,
     each: bool,
 ) -> usize
     requires { ⌜ (accepted (now t) ≡ true) × (take (pointTotal (tableOf (now t))) (now counts) ≡ coverCounts (tableOf (now t))) ⌝ }
-    requires { ⌜ (cur + length (allCrossCounters (tableOf (now t))) ≤ length (now out)) × (cover < 100) × (illegal < 100) × (product < 100) ⌝ }
+    requires { ⌜ (cur + length (allCrossCounters (tableOf (now t))) ≤ length (now out)) × (e .cover < 100) × (e .illegal < 100) × (e .product < 100) ⌝ }
     ensures { λ r. ⌜ r ≡ cur + length (allCrossCounters (tableOf (now (t .entry)))) ⌝ }
-    ensures { λ _. ⌜ ((g : Counter → ℕ) → Labels g cover illegal product each → now (out .exit) ≡ put cur (map g (allCrossCounters (tableOf (now (t .entry))))) (now (out .entry))) ⌝ }
+    ensures { λ _. ⌜ ((g : Counter → ℕ) → Labels g (e .cover) (e .illegal) (e .product) each → now (out .exit) ≡ put cur (map g (allCrossCounters (tableOf (now (t .entry))))) (now (out .entry))) ⌝ }
 {
     let l = layout_of(t);
     let n = l.cross_count;
-    let mut cp = l.crosses;
-    let mut bp = l.cross_bins;
+    let mut p = first_place(t);
     let mut at = cur;
     let mut c = 0;
     while c < n {
         let d = shift_of(each, c);
-        at = put_cross_labels(
-            out,
-            at,
-            t,
-            counts,
-            cover + d,
-            illegal + d,
-            product + d,
-            cp,
-            bp,
-        );
-        bp += 3 * (byte(t, cp + 12) as usize);
-        cp += 13;
+        let x = Elements {
+            cover: e.cover + d,
+            illegal: e.illegal + d,
+            product: e.product + d,
+        };
+        at = put_cross_labels(out, at, t, counts, x, p);
+        p = next_place(t, p);
         c += 1;
     }
     at
@@ -134,7 +118,12 @@ pub fn put_cross_kinds(kinds: &mut [u8], cur: usize, t: &[u8], counts: &[u16]) -
     ensures { λ r. ⌜ r ≡ cur + length (allCrossCounters (tableOf (now (t .entry)))) ⌝ }
     ensures { λ _. ⌜ now (kinds .exit) ≡ put cur (kindsOf (allCrossCounters (tableOf (now (t .entry))))) (now (kinds .entry)) ⌝ }
 {
-    put_all_labels(kinds, cur, t, counts, 5, 6, 7, false)
+    let e = Elements {
+        cover: 5,
+        illegal: 6,
+        product: 7,
+    };
+    put_all_labels(kinds, cur, t, counts, e, false)
 }
 
 // The item of each counter of a cross: crosses are numbered after the points.
@@ -145,5 +134,10 @@ pub fn put_cross_items(items: &mut [u8], cur: usize, t: &[u8], counts: &[u16]) -
 {
     let l = layout_of(t);
     let points = l.point_count as u8;
-    put_all_labels(items, cur, t, counts, points, points, points, true)
+    let e = Elements {
+        cover: points,
+        illegal: points,
+        product: points,
+    };
+    put_all_labels(items, cur, t, counts, e, true)
 }

@@ -2,4 +2,5 @@
 pub mod all;
 pub mod bins;
 pub mod labels;
+pub mod order;
 pub mod own;

@@ -29,34 +29,34 @@ pub fn mask_of(t: &[u8], b: usize, n: usize) -> u16
     mask
 }
 
-fn own_mark(m: u16, mask: u16) -> u16
-    ensures { λ r. ⌜ r ≡ ownMark mask m ⌝ }
+fn own_mark(hit: u8, m: u16, mask: u16) -> u16
+    ensures { λ r. ⌜ r ≡ ownMark mask hit m ⌝ }
 {
-    if m & mask == 0 { m } else { 0 }
+    if (hit == 1) & (m & mask == 0) { m } else { 0 }
 }
 
-// The marks of the products that no bin of the mask selects.
-pub fn own_marks(marks: &[u16], n: usize, mask: u16) -> u16
-    requires { ⌜ n ≤ length (now marks) ⌝ }
-    ensures { λ r. ⌜ r ≡ ownMarks mask (take n (now (marks .entry))) ⌝ }
+// The marks of the hit products that no bin of the mask selects.
+pub fn own_marks(hits: &[u8], marks: &[u16], n: usize, mask: u16) -> u16
+    requires { ⌜ (n ≤ length (now hits)) × (n ≤ length (now marks)) ⌝ }
+    ensures { λ r. ⌜ r ≡ ownMarks mask (take n (now (hits .entry))) (take n (now (marks .entry))) ⌝ }
 {
     let mut own: u16 = 0;
     let mut i = n;
     while 0 < i {
         i -= 1;
-        let m = own_mark(marks[i], mask);
+        let m = own_mark(hits[i], marks[i], mask);
         own = m | own;
     }
     own
 }
 
-// Those of all products, and none in the total.
-pub fn every_mark(marks: &[u16], n: usize, total: bool) -> u16
-    requires { ⌜ n ≤ length (now marks) ⌝ }
-    ensures { λ r. ⌜ r ≡ everyMark total (take n (now (marks .entry))) ⌝ }
+// Those of all hit products, and none in the total.
+pub fn every_mark(hits: &[u8], marks: &[u16], n: usize, total: bool) -> u16
+    requires { ⌜ (n ≤ length (now hits)) × (n ≤ length (now marks)) ⌝ }
+    ensures { λ r. ⌜ r ≡ everyMark total (take n (now (hits .entry))) (take n (now (marks .entry))) ⌝ }
 {
     if total {
         return 0;
     }
-    own_marks(marks, n, 0)
+    own_marks(hits, marks, n, 0)
 }

@@ -2,6 +2,7 @@
 use covers::put_has;
 use covers::put_origins;
 use crosses::all::put_crosses;
+use crosses::bins::Ask;
 use crosses::labels::put_cross_items;
 use crosses::labels::put_cross_kinds;
 use layout::layout_of;
@@ -52,14 +53,18 @@ pub fn put_kinds(kinds: &mut [u8], t: &[u8]) -> Index
 
 // The flags of the crosses' counters, from the gates of the cover bins.
 fn put_crossed(flags: &mut [u8], at: usize, t: &[u8], sample: &[u32], total: bool, gate: &[u8])
-    requires { ⌜ (accepted (now t) ≡ true) × (4096 ≤ length (now gate)) × (at + length (allCrossCounters (tableOf (now t))) ≤ length (now flags)) ⌝ }
+    requires { ⌜ (accepted (now t) ≡ true) × (at + length (allCrossCounters (tableOf (now t))) ≤ length (now flags)) ⌝ }
     ensures raised { λ _. ⌜ (total ≡ false → Tells (coverHit (tableOf (now (t .entry))) (now (sample .entry))) (tableOf (now (t .entry))) (now (gate .entry)) → (m : Stretches) → now (flags .exit) ≡ put at (hitFlags (tableOf (now (t .entry))) (now (sample .entry)) m (allCrossCounters (tableOf (now (t .entry))))) (now (flags .entry))) ⌝ }
     ensures counted { λ _. ⌜ (total ≡ true → Tells (hasValue (tableOf (now (t .entry)))) (tableOf (now (t .entry))) (now (gate .entry)) → now (flags .exit) ≡ put at (totalFlags (tableOf (now (t .entry))) (allCrossCounters (tableOf (now (t .entry))))) (now (flags .entry))) ⌝ }
 {
     let mut origins = [0u16; 4096];
     let mut counts = [0u16; 16];
     put_origins(&mut origins, &mut counts, t);
-    put_crosses(flags, at, t, sample, total, &counts, gate, &origins);
+    let ask = Ask {
+        at: at,
+        total: total,
+    };
+    put_crosses(flags, t, sample, &counts, gate, &origins, ask);
 }
 
 // What a sample raises. kinds and x are the table's.

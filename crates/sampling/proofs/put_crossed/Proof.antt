@@ -24,7 +24,7 @@ put-crosses-requires c κs =
     let b = c .before .before .before .before .before .before .before .before .before .before .before .before in
     let k = c .before .before .before .before .before .put-origins in
     let s = b .args .t .now in
-    ((b .pre .0, counts-stand s _ (k .last .1 .0) (b .pre .0) (k .ensures .2) (omega arith), b .pre .1, omega arith, k .ensures .0), b .pre .2)
+    ((b .pre .0, counts-stand s _ (k .last .1 .0) (b .pre .0) (k .ensures .2) (omega arith), k .ensures .0), b .pre .1)
 
 same-length : tie.Need-same-length
 same-length c = search needs

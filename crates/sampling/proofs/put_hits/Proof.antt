@@ -30,7 +30,7 @@ put-crossed-requires c κs =
     let b = c .before .before .before .before .before .before .before .before .before .before .before .before .before .before .before .before .before .before in
     let p = c .before .before .before .before .before .before .before .before .before .put-points in
     let s = b .args .t .now in
-    (b .pre .0 .0, omega arith, omega (arith, all-count (tableOf s), b .pre .0 .1 .1, p .ensures .0, p .kept .0))
+    (b .pre .0 .0, omega (arith, all-count (tableOf s), b .pre .0 .1 .1, p .ensures .0, p .kept .0))
 
 same-length : tie.Need-same-length
 same-length c = search needs

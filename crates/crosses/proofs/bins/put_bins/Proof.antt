@@ -13,19 +13,19 @@ use Rattle.crosses.proofs.bins.put_bins.Statement.{statement}
 use Rattle.crosses.proofs.bins.put_bins.Tie as tie
 
 abbrev Inv-loop : tie.InvT-loop
-Inv-loop flags₀ cur t sample total live own every b n at₀ x₀ y₀ i₀ flags at x y i =
+Inv-loop flags₀ t sample b n total live at₀ x₀ y₀ i₀ flags at x y i =
     (i ≤ n) × (length flags ≡ length flags₀)
-    × (at + length (binFlags sample total live x y (headsAt t (b + 3 * i) (n - i))) ≡ cur + length (binFlags sample total live own every (headsAt t b n)))
-    × (put at (binFlags sample total live x y (headsAt t (b + 3 * i) (n - i))) flags ≡ put cur (binFlags sample total live own every (headsAt t b n)) flags₀)
+    × (at + length (binFlags sample total live x y (headsAt t (b + 3 * i) (n - i))) ≡ at₀ + length (binFlags sample total live x₀ y₀ (headsAt t b n)))
+    × (put at (binFlags sample total live x y (headsAt t (b + 3 * i) (n - i))) flags ≡ put at₀ (binFlags sample total live x₀ y₀ (headsAt t b n)) flags₀)
 
 abbrev μ-loop : tie.MeasureT-loop
-μ-loop flags₀ cur t sample total live own every b n at₀ x₀ y₀ i₀ flags at x y i = n - i
+μ-loop flags₀ t sample b n total live at₀ x₀ y₀ i₀ flags at x y i = n - i
 
 loop-holds : tie.Need-loop-holds Inv-loop μ-loop
 loop-holds c =
     let a = c .before .before .before .args in
-    let z = flags-start (a .sample .now) (a .total) (a .live) (a .t .now) (a .b) (a .n) (a .own) (a .every) in
-    (omega arith, refl, ap (λ (ys : List ℕ). a .cur + length ys) z, ap (λ (ys : List ℕ). put (a .cur) ys (a .flags .now)) z)
+    let z = flags-start (a .sample .now) (a .ask .total) (a .r .live) (a .t .now) (a .b) (a .n) (a .r .own) (a .r .every) in
+    (omega arith, refl, ap (λ (ys : List ℕ). a .ask .at + length ys) z, ap (λ (ys : List ℕ). put (a .ask .at) ys (a .flags .now)) z)
 
 mul-here : tie.Need-mul-here Inv-loop μ-loop
 mul-here c = omega arith
@@ -60,7 +60,7 @@ put-label-requires c κs =
     let p = c .before .before .before .before .passing in
     let f = c .before .flag-of in
     let h = c .flag-of2 in
-    let z = flags-turn (a .sample .now) (a .total) (a .live) (a .t .now) (a .b) (a .n) (l .x) (l .y) (l .i) (k .result) (g .result) (f .result) (h .result) (p .result) (omega arith) (k .ensures) (g .ensures) (p .ensures) (f .ensures) (h .ensures) in
+    let z = flags-turn (a .sample .now) (a .ask .total) (a .r .live) (a .t .now) (a .b) (a .n) (l .x) (l .y) (l .i) (k .result) (g .result) (f .result) (h .result) (p .result) (omega arith) (k .ensures) (g .ensures) (p .ensures) (f .ensures) (h .ensures) in
     let long = ap length z ∙ length-append (labelOf (f .result) (h .result) (kindFrom (k .result))) _ in
     omega (arith, long, l .inv .1, l .inv .2, c .before .before .before .before .before .before .before .before .before .before .before .pre .2)
 
@@ -80,7 +80,7 @@ loop-again c =
     let f = c .before .before .before .before .flag-of in
     let h = c .before .before .before .flag-of2 in
     let q = c .before .before .put-label in
-    let z = flags-turn (a .sample .now) (a .total) (a .live) (a .t .now) (a .b) (a .n) (l .x) (l .y) (l .i) (k .result) (g .result) (f .result) (h .result) (p .result) (omega arith) (k .ensures) (g .ensures) (p .ensures) (f .ensures) (h .ensures) in
+    let z = flags-turn (a .sample .now) (a .ask .total) (a .r .live) (a .t .now) (a .b) (a .n) (l .x) (l .y) (l .i) (k .result) (g .result) (f .result) (h .result) (p .result) (omega arith) (k .ensures) (g .ensures) (p .ensures) (f .ensures) (h .ensures) in
     let u = put-turn (l .at) (q .result) _ _ _ (l .flags) (q .last .0) z (omega (arith, l .inv .1, l .inv .2, c .before .before .before .before .before .before .before .before .before .before .before .before .before .before .pre .2)) (q .ensures .0) (q .ensures .1) in
     (omega arith, q .kept .0 ∙ l .inv .1, u .0 ∙ l .inv .2, u .1 ∙ l .inv .3)
 
@@ -91,7 +91,7 @@ returns : tie.Need-returns Inv-loop μ-loop
 returns c =
     let a = c .before .before .before .before .before .args in
     let l = c .before .loop in
-    let z = flags-end (a .sample .now) (a .total) (a .live) (a .t .now) (a .b) (a .n) (l .x) (l .y) (l .i) (omega arith) in
+    let z = flags-end (a .sample .now) (a .ask .total) (a .r .live) (a .t .now) (a .b) (a .n) (l .x) (l .y) (l .i) (omega arith) in
     (omega (arith, ap length z, l .inv .2), sym (ap (λ (ys : List ℕ). put (l .at) ys (l .flags)) z ∙ put-nil (l .at) (l .flags)) ∙ l .inv .3)
 
 pub put-bins-spec : {M : Type 1} → statement M

@@ -38,7 +38,7 @@ put-bins-requires : tie.Need-put-bins-requires
 put-bins-requires c κs =
     let a = c .before .before .before .before .before .before .before .before .before .before .before .before .args in
     let p = c .before .before .before .before .before .before .before .before .before .before .before .before .pre in
-    let z = cross-parts-length (a .t .now) (a .sample .now) (a .total) (a .cp) (a .bp) (a .n) (a .hits .now) (a .marks .now) (c .before .before .before .before .before .byte2 .result) (c .before .before .before .before .before .before .byte .result) (c .before .before .before .mask-of .result) (c .before .before .own-marks .result) (c .before .every-mark .result) (c .before .before .before .before .passing .result) (c .before .before .before .before .before .byte2 .ensures) (c .before .before .before .before .before .before .byte .ensures) (c .before .before .before .before .passing .ensures) (c .before .before .before .mask-of .ensures) (c .before .before .own-marks .ensures) (c .before .every-mark .ensures) (p .1 .0) (p .1 .1) in
+    let z = cross-parts-length (a .t .now) (a .sample .now) (a .ask .total) (a .x .cross) (a .x .bins) (a .x .products) (a .hits .now) (a .marks .now) (c .before .before .before .before .before .byte2 .result) (c .before .before .before .before .before .before .byte .result) (c .before .before .before .mask-of .result) (c .before .before .own-marks .result) (c .before .every-mark .result) (c .before .before .before .before .passing .result) (c .before .before .before .before .before .byte2 .ensures) (c .before .before .before .before .before .before .byte .ensures) (c .before .before .before .before .passing .ensures) (c .before .before .before .mask-of .ensures) (c .before .before .own-marks .ensures) (c .before .every-mark .ensures) (p .1 .0) (p .1 .1) in
     (omega arith, omega arith, omega (arith, z, p .1 .2))
 
 put-products-requires : tie.Need-put-products-requires
@@ -46,7 +46,7 @@ put-products-requires c κs =
     let a = c .before .before .before .before .before .before .before .before .before .before .before .before .before .before .before .before .args in
     let p = c .before .before .before .before .before .before .before .before .before .before .before .before .before .before .before .before .pre in
     let q = c .before .before .before .put-bins in
-    let z = cross-parts-length (a .t .now) (a .sample .now) (a .total) (a .cp) (a .bp) (a .n) (a .hits .now) (a .marks .now) (c .before .before .before .before .before .before .before .before .before .byte2 .result) (c .before .before .before .before .before .before .before .before .before .before .byte .result) (c .before .before .before .before .before .before .before .mask-of .result) (c .before .before .before .before .before .before .own-marks .result) (c .before .before .before .before .before .every-mark .result) (c .before .before .before .before .before .before .before .before .passing .result) (c .before .before .before .before .before .before .before .before .before .byte2 .ensures) (c .before .before .before .before .before .before .before .before .before .before .byte .ensures) (c .before .before .before .before .before .before .before .before .passing .ensures) (c .before .before .before .before .before .before .before .mask-of .ensures) (c .before .before .before .before .before .before .own-marks .ensures) (c .before .before .before .before .before .every-mark .ensures) (p .1 .0) (p .1 .1) in
+    let z = cross-parts-length (a .t .now) (a .sample .now) (a .ask .total) (a .x .cross) (a .x .bins) (a .x .products) (a .hits .now) (a .marks .now) (c .before .before .before .before .before .before .before .before .before .byte2 .result) (c .before .before .before .before .before .before .before .before .before .before .byte .result) (c .before .before .before .before .before .before .before .mask-of .result) (c .before .before .before .before .before .before .own-marks .result) (c .before .before .before .before .before .every-mark .result) (c .before .before .before .before .before .before .before .before .passing .result) (c .before .before .before .before .before .before .before .before .before .byte2 .ensures) (c .before .before .before .before .before .before .before .before .before .before .byte .ensures) (c .before .before .before .before .before .before .before .before .passing .ensures) (c .before .before .before .before .before .before .before .mask-of .ensures) (c .before .before .before .before .before .before .own-marks .ensures) (c .before .before .before .before .before .every-mark .ensures) (p .1 .0) (p .1 .1) in
     (p .1 .0, p .1 .1, omega (arith, z, p .1 .2, q .ensures .0, q .kept .0))
 
 same-length : tie.Need-same-length
@@ -59,9 +59,9 @@ returns c =
     let q = c .before .before .before .before .before .before .put-bins in
     let r = c .before .before .put-products in
     let live = c .before .before .before .before .before .before .before .before .before .before .before .passing .result in
-    let z = cross-parts (a .t .now) (a .sample .now) (a .total) (a .cp) (a .bp) (a .n) (a .hits .now) (a .marks .now) (c .before .before .before .before .before .before .before .before .before .before .before .before .byte2 .result) (c .before .before .before .before .before .before .before .before .before .before .before .before .before .byte .result) (c .before .before .before .before .before .before .before .before .before .before .mask-of .result) (c .before .before .before .before .before .before .before .before .before .own-marks .result) (c .before .before .before .before .before .before .before .before .every-mark .result) (c .before .before .before .before .before .before .before .before .before .before .before .passing .result) (c .before .before .before .before .before .before .before .before .before .before .before .before .byte2 .ensures) (c .before .before .before .before .before .before .before .before .before .before .before .before .before .byte .ensures) (c .before .before .before .before .before .before .before .before .before .before .before .passing .ensures) (c .before .before .before .before .before .before .before .before .before .before .mask-of .ensures) (c .before .before .before .before .before .before .before .before .before .own-marks .ensures) (c .before .before .before .before .before .before .before .before .every-mark .ensures) in
-    both-written (a .cur) (q .result) (r .result) _ _ _ (a .flags .now) (q .last .0) (r .last .0) z (p .1 .2) (q .ensures .0) (q .ensures .1)
-    (r .ensures .0 ∙ ap (q .result +_) (sym (length-products live (a .n) (a .hits .now) (a .marks .now) (p .1 .0) (p .1 .1)))) (r .ensures .1)
+    let z = cross-parts (a .t .now) (a .sample .now) (a .ask .total) (a .x .cross) (a .x .bins) (a .x .products) (a .hits .now) (a .marks .now) (c .before .before .before .before .before .before .before .before .before .before .before .before .byte2 .result) (c .before .before .before .before .before .before .before .before .before .before .before .before .before .byte .result) (c .before .before .before .before .before .before .before .before .before .before .mask-of .result) (c .before .before .before .before .before .before .before .before .before .own-marks .result) (c .before .before .before .before .before .before .before .before .every-mark .result) (c .before .before .before .before .before .before .before .before .before .before .before .passing .result) (c .before .before .before .before .before .before .before .before .before .before .before .before .byte2 .ensures) (c .before .before .before .before .before .before .before .before .before .before .before .before .before .byte .ensures) (c .before .before .before .before .before .before .before .before .before .before .before .passing .ensures) (c .before .before .before .before .before .before .before .before .before .before .mask-of .ensures) (c .before .before .before .before .before .before .before .before .before .own-marks .ensures) (c .before .before .before .before .before .before .before .before .every-mark .ensures) in
+    both-written (a .ask .at) (q .result) (r .result) _ _ _ (a .flags .now) (q .last .0) (r .last .0) z (p .1 .2) (q .ensures .0) (q .ensures .1)
+    (r .ensures .0 ∙ ap (q .result +_) (sym (length-products live (a .x .products) (a .hits .now) (a .marks .now) (p .1 .0) (p .1 .1)))) (r .ensures .1)
 
 pub put-cross-spec : {M : Type 1} → statement M
 put-cross-spec =

@@ -1,149 +1,142 @@
-use mathlib.Core.Path.{_≡_, refl, sym, ap, _∙_}
+use mathlib.Core.Path.{_≡_, refl, sym, ap, _∙_, subst}
 use mathlib.Core.List.{List, map}
-use Prim.Native.Nat.{ℕ, _+_, _-_, _*_, _≤_, _<_}
+use Prim.Native.Nat.{ℕ, _+_, _-_, _≤_, _<_}
 use native.Mathlib.Omega.{arith}
 use lib.ListN.{length}
 use Rattle.model.specs.Counters.{Counter, crossCounters}
 use Rattle.model.specs.Format.{tableOf}
 use Rattle.model.proofs.RawExact.{few-crosses}
 use Rattle.arrays.specs.Put.{put}
-use Rattle.arrays.specs.Flat.{crossPlace, allCrossCounters}
-use Rattle.crosses.specs.Flags.{placeOf}
-use Rattle.crosses.specs.Labels.{Labels}
-use Rattle.crosses.proofs.Places.{place-first, place-on, count-crosses, few-parts}
+use Rattle.arrays.specs.Flat.{allCrossCounters}
+use Rattle.crosses.specs.Order.{Nth}
+use Rattle.crosses.specs.Labels.{Labels, shift}
+use Rattle.crosses.proofs.Places.{nth-stands, count-crosses}
 use Rattle.crosses.proofs.FlagsExact.{labels-exact, length-labels}
 use Rattle.crosses.proofs.Walks.{countersFrom, from-start, from-length, from-end, map-turn, map-end}
 use Rattle.crosses.proofs.labels.put_all_labels.Statement.{statement}
 use Rattle.crosses.proofs.labels.put_all_labels.Tie as tie
 
 abbrev Inv-loop : tie.InvT-loop
-Inv-loop out₀ cur t counts cover illegal product each n cp₀ bp₀ at₀ c₀ out cp bp at c =
-    (c ≤ n) × (n ≡ length (tableOf t .crosses)) × (crossPlace t c ≡ placeOf cp bp (crossPlace t c .tokens))
-    × (cp ≤ 16777216 + 13 * c) × (bp ≤ 16777216 + 765 * c) × (length out ≡ length out₀)
+Inv-loop out₀ cur t counts e each n p₀ at₀ c₀ out p at c =
+    (c ≤ n) × (n ≡ length (tableOf t .crosses)) × Nth t c p × (length out ≡ length out₀)
     × (at + length (countersFrom (tableOf t) c (n - c)) ≡ cur + length (allCrossCounters (tableOf t)))
-    × ((g : Counter → ℕ) → Labels g cover illegal product each → put at (map g (countersFrom (tableOf t) c (n - c))) out ≡ put cur (map g (allCrossCounters (tableOf t))) out₀)
+    × ((g : Counter → ℕ) → Labels g (e .cover) (e .illegal) (e .product) each → put at (map g (countersFrom (tableOf t) c (n - c))) out ≡ put cur (map g (allCrossCounters (tableOf t))) out₀)
 
 abbrev μ-loop : tie.MeasureT-loop
-μ-loop out₀ cur t counts cover illegal product each n cp₀ bp₀ at₀ c₀ out cp bp at c = n - c
+μ-loop out₀ cur t counts e each n p₀ at₀ c₀ out p at c = n - c
 
 layout-of-requires : tie.Need-layout-of-requires Inv-loop μ-loop
 layout-of-requires c κs = tt
 
+first-place-requires : tie.Need-first-place-requires Inv-loop μ-loop
+first-place-requires c κs = tt
+
 loop-holds : tie.Need-loop-holds Inv-loop μ-loop
 loop-holds c =
-    let a = c .before .before .before .before .args in
-    let p = c .before .before .before .before .pre in
-    let l = c .layout-of in
-    let t = tableOf (a .t .now) in
-    let n = count-crosses (a .t .now) (p .0 .0) (l .result) (l .ensures .0) in
-    let z = from-start t (l .result .«cross_count») n in (
+    let a = c .before .before .before .before .before .args in
+    let l = c .before .layout-of in
+    let n = count-crosses (a .t .now) (c .before .before .before .before .before .pre .0 .0) (l .result) (l .ensures .0) in
+    let z = from-start (tableOf (a .t .now)) (l .result .«cross_count») n in (
       omega arith,
       n,
-      place-first (a .t .now) (l .result) (l .ensures .0),
-      omega (arith, l .ensures .1 .crosses),
-      omega (arith, l .ensures .1 .cross-bins),
+      c .first-place .ensures,
       refl,
       ap (λ (cs : List Counter). a .cur + length cs) z,
       λ g k. ap (λ (cs : List Counter). put (a .cur) (map g cs) (a .out .now)) z,
     )
 
 shift-of-requires : tie.Need-shift-of-requires Inv-loop μ-loop
-shift-of-requires c κs = let i = c .before .loop .inv in let a = c .before .before .before .before .before .before .args in omega (arith, i .0, i .1, c .loop-test .taken, few-crosses (a .t .now) (c .before .before .before .before .before .before .pre .0 .0))
+shift-of-requires c κs = omega (arith, c .before .loop .inv .1, c .loop-test .taken, few-crosses (c .before .before .before .before .before .before .before .args .t .now) (c .before .before .before .before .before .before .before .pre .0 .0))
 
-add-put-cross-labels : tie.Need-add-put-cross-labels Inv-loop μ-loop
-add-put-cross-labels c = omega (arith, c .before .before .before .before .before .before .before .before .pre .1 .1, c .before .shift-of .ensures .1)
+add-t15 : tie.Need-add-t15 Inv-loop μ-loop
+add-t15 c = omega (arith, c .before .before .before .before .before .before .before .before .before .pre .1 .1, c .before .shift-of .ensures .1)
 
-add-put-cross-labels-2 : tie.Need-add-put-cross-labels-2 Inv-loop μ-loop
-add-put-cross-labels-2 c = omega (arith, c .before .before .before .before .before .before .before .before .pre .1 .2, c .before .shift-of .ensures .1)
+add-t16 : tie.Need-add-t16 Inv-loop μ-loop
+add-t16 c = omega (arith, c .before .before .before .before .before .before .before .before .before .before .pre .1 .2, c .before .before .shift-of .ensures .1)
 
-add-put-cross-labels-3 : tie.Need-add-put-cross-labels-3 Inv-loop μ-loop
-add-put-cross-labels-3 c = omega (arith, c .before .before .before .before .before .before .before .before .pre .1 .3, c .before .shift-of .ensures .1)
+add-t17 : tie.Need-add-t17 Inv-loop μ-loop
+add-t17 c = omega (arith, c .before .before .before .before .before .before .before .before .before .before .before .pre .1 .3, c .before .before .before .shift-of .ensures .1)
 
 put-cross-labels-requires : tie.Need-put-cross-labels-requires Inv-loop μ-loop
 put-cross-labels-requires c κs =
-    let a = c .before .before .before .before .before .before .before .before .args in
-    let p = c .before .before .before .before .before .before .before .before .pre in
-    let l = c .before .before .before .loop in
+    let a = c .before .before .before .before .before .before .before .before .before .before .before .before .args in
+    let pre = c .before .before .before .before .before .before .before .before .before .before .before .before .pre in
+    let s = a .t .now in
+    let t = tableOf s in
+    let l = c .before .before .before .before .before .before .loop in
     let i = l .inv in
-    let h = c .before .before .loop-test .taken in
-    let d = c .before .shift-of .result in
-    let n = c .before .before .before .before .layout-of .result .«cross_count» in
-    let few = few-crosses (a .t .now) (p .0 .0) in
-    let inside : l .c < length (tableOf (a .t .now) .crosses) = omega (arith, h, i .1) in
-    let long = from-length (tableOf (a .t .now)) n (l .c) h in
-    let z = length-labels (a .t .now) (p .0 .0) (l .c) inside (l .cp) (l .bp) _ (i .2) (a .counts .now) (p .0 .1) (a .cover + d) (a .illegal + d) (a .product + d) in
-    ((omega (arith, i .3, i .0, i .1, few), omega (arith, i .4, i .0, i .1, few), few-parts (a .t .now) (p .0 .0) (l .c) inside (l .cp) (l .bp) _ (i .2)), omega (arith, long, z, i .5, i .6, p .1 .0))
+    let h = c .before .before .before .before .before .loop-test .taken in
+    let n = c .before .before .before .before .before .before .before .before .layout-of .result .«cross_count» in
+    let stands = nth-stands s (pre .0 .0) (l .c) (l .p) (omega (arith, h, i .1)) (i .2) in
+    let d = c .before .before .before .before .shift-of .result in
+    let z = length-labels s (l .p) stands (a .e .cover + d) (a .e .illegal + d) (a .e .product + d) in
+    let same = ap (λ (x : ℕ). length (crossCounters t x)) (i .2 .number) in
+    ((stands, pre .0 .1), omega (arith, from-length t n (l .c) h, z, same, i .3, i .4, pre .1 .0))
 
-add-byte : tie.Need-add-byte Inv-loop μ-loop
-add-byte c = let i = c .before .before .before .before .before .before .loop .inv in omega (arith, i .3, i .0, i .1, few-crosses (c .before .before .before .before .before .before .before .before .before .before .before .args .t .now) (c .before .before .before .before .before .before .before .before .before .before .before .pre .0 .0))
-
-byte-requires : tie.Need-byte-requires Inv-loop μ-loop
-byte-requires c κs = tt
-
-cast-bp : tie.Need-cast-bp Inv-loop μ-loop
-cast-bp c = omega arith
-
-mul-bp : tie.Need-mul-bp Inv-loop μ-loop
-mul-bp c = omega arith
-
-add-bp : tie.Need-add-bp Inv-loop μ-loop
-add-bp c = let i = c .before .before .before .before .before .before .before .loop .inv in omega (arith, i .4, i .0, i .1, few-crosses (c .before .before .before .before .before .before .before .before .before .before .before .before .args .t .now) (c .before .before .before .before .before .before .before .before .before .before .before .before .pre .0 .0))
-
-add-cp : tie.Need-add-cp Inv-loop μ-loop
-add-cp c = let i = c .before .before .before .before .before .before .before .loop .inv in omega (arith, i .3, i .0, i .1, few-crosses (c .before .before .before .before .before .before .before .before .before .before .before .before .args .t .now) (c .before .before .before .before .before .before .before .before .before .before .before .before .pre .0 .0))
+next-place-requires : tie.Need-next-place-requires Inv-loop μ-loop
+next-place-requires c κs =
+    let a = c .before .before .before .before .before .before .before .before .before .before .before .before .before .before .before .args in
+    let pre = c .before .before .before .before .before .before .before .before .before .before .before .before .before .before .before .pre in
+    let s = a .t .now in
+    let t = tableOf s in
+    let l = c .before .before .before .before .before .before .before .before .before .loop in
+    let i = l .inv in
+    let h = c .before .before .before .before .before .before .before .before .loop-test .taken in
+    let n = c .before .before .before .before .before .before .before .before .before .before .before .layout-of .result .«cross_count» in
+    let stands = nth-stands s (pre .0 .0) (l .c) (l .p) (omega (arith, h, i .1)) (i .2) in
+    stands
 
 add-c : tie.Need-add-c Inv-loop μ-loop
-add-c c = let i = c .before .before .before .before .before .before .before .loop .inv in omega (arith, i .0, i .1, few-crosses (c .before .before .before .before .before .before .before .before .before .before .before .before .args .t .now) (c .before .before .before .before .before .before .before .before .before .before .before .before .pre .0 .0))
+add-c c = omega (arith, c .before .before .before .before .before .before .before .before .before .before .loop .inv .1, c .before .before .before .before .before .before .before .before .before .loop-test .taken, few-crosses (c .before .before .before .before .before .before .before .before .before .before .before .before .before .before .before .before .args .t .now) (c .before .before .before .before .before .before .before .before .before .before .before .before .before .before .before .before .pre .0 .0))
 
 loop-less : tie.Need-loop-less Inv-loop μ-loop
-loop-less c = omega (arith, c .before .before .before .before .before .before .loop-test .taken)
+loop-less c = omega (arith, c .before .before .before .before .before .before .before .before .before .loop-test .taken)
 
 loop-again : tie.Need-loop-again Inv-loop μ-loop
 loop-again c =
-    let a = c .before .before .before .before .before .before .before .before .before .before .before .before .args in
-    let p = c .before .before .before .before .before .before .before .before .before .before .before .before .pre in
-    let l = c .before .before .before .before .before .before .before .loop in
+    let a = c .before .before .before .before .before .before .before .before .before .before .before .before .before .before .before .before .args in
+    let pre = c .before .before .before .before .before .before .before .before .before .before .before .before .before .before .before .before .pre in
+    let s = a .t .now in
+    let t = tableOf s in
+    let l = c .before .before .before .before .before .before .before .before .before .before .loop in
     let i = l .inv in
-    let h = c .before .before .before .before .before .before .loop-test .taken in
-    let d = c .before .before .before .before .before .shift-of in
+    let h = c .before .before .before .before .before .before .before .before .before .loop-test .taken in
+    let n = c .before .before .before .before .before .before .before .before .before .before .before .before .layout-of .result .«cross_count» in
+    let stands = nth-stands s (pre .0 .0) (l .c) (l .p) (omega (arith, h, i .1)) (i .2) in
+    let d = c .before .before .before .before .before .before .before .before .shift-of in
     let q = c .before .before .before .put-cross-labels in
-    let k = c .byte in
-    let n = c .before .before .before .before .before .before .before .before .layout-of .result .«cross_count» in
-    let t = tableOf (a .t .now) in
-    let inside : l .c < length (tableOf (a .t .now) .crosses) = omega (arith, h, i .1) in
-    let long = from-length t n (l .c) h in
-    let z = length-labels (a .t .now) (p .0 .0) (l .c) inside (l .cp) (l .bp) _ (i .2) (a .counts .now) (p .0 .1) (a .cover + d .result) (a .illegal + d .result) (a .product + d .result) in
-    let e : q .result ≡ l .at + length (crossCounters t (l .c)) = omega (arith, z, q .ensures .0) in (
+    let z = length-labels s (l .p) stands (a .e .cover + d .result) (a .e .illegal + d .result) (a .e .product + d .result) in
+    let same = ap (λ (x : ℕ). length (crossCounters t x)) (i .2 .number) in
+    let end : q .result ≡ l .at + length (crossCounters t (l .c)) = omega (arith, z, same, q .ensures .0) in
+    let moved : d .result ≡ shift (a .each) (l .p .number) = d .ensures .0 ∙ ap (shift (a .each)) (sym (i .2 .number)) in (
       omega (arith, h),
       i .1,
-      place-on (a .t .now) (l .c) (l .cp) (l .bp) (k .result) (i .2) (k .ensures),
-      omega (arith, i .3),
-      omega (arith, i .4),
-      q .kept .0 ∙ i .5,
-      omega (arith, long, i .6, e),
+      subst (λ (x : ℕ). Nth s (x + 1) (c .next-place .result)) (i .2 .number) (c .next-place .ensures),
+      q .kept .0 ∙ i .3,
+      omega (arith, from-length t n (l .c) h, i .4, end),
       λ g y.
-          map-turn t n (l .c) (l .at) (q .result) (l .out) (q .last .0) h (omega (arith, i .5, i .6, p .1 .0)) e g
+          map-turn t n (l .c) (l .at) (q .result) (l .out) (q .last .0) h (omega (arith, i .3, i .4, pre .1 .0)) end g
           (q .ensures .1
           ∙ ap (λ (ys : List ℕ). put (l .at) ys (l .out))
-          (sym (labels-exact (a .t .now) (p .0 .0) (l .c) inside (l .cp) (l .bp) _ (i .2) (a .counts .now) (p .0 .1) g (a .cover + d .result) (a .illegal + d .result) (a .product + d .result)
-          (λ j. y .on-cover (l .c) j ∙ ap (a .cover +_) (sym (d .ensures .0)))
-          (λ j. y .on-illegal (l .c) j ∙ ap (a .illegal +_) (sym (d .ensures .0)))
-          (λ cs. y .on-product (l .c) cs ∙ ap (a .product +_) (sym (d .ensures .0))))))
-          ∙ i .7 g y,
+          (sym (labels-exact s (l .p) stands g (a .e .cover + d .result) (a .e .illegal + d .result) (a .e .product + d .result)
+          (λ j. y .on-cover (l .p .number) j ∙ ap (a .e .cover +_) (sym moved))
+          (λ j. y .on-illegal (l .p .number) j ∙ ap (a .e .illegal +_) (sym moved))
+          (λ cs. y .on-product (l .p .number) cs ∙ ap (a .e .product +_) (sym moved)))
+          ∙ ap (λ (x : ℕ). map g (crossCounters t x)) (i .2 .number)))
+          ∙ i .5 g y,
     )
 
 same-length : tie.Need-same-length Inv-loop μ-loop
-same-length c = c .before .loop .inv .5
+same-length c = c .before .loop .inv .3
 
 returns : tie.Need-returns Inv-loop μ-loop
 returns c =
-    let a = c .before .before .before .before .before .before .args in
     let l = c .before .loop in
     let i = l .inv in
-    let n = c .before .before .layout-of .result .«cross_count» in
-    let t = tableOf (a .t .now) in
+    let n = c .before .before .before .layout-of .result .«cross_count» in
+    let t = tableOf (c .before .before .before .before .before .before .before .args .t .now) in
     let z = from-end t n (l .c) (c .loop-test .left) in
-    (omega (arith, i .6, ap length z), λ g y. map-end t n (l .c) (l .at) (l .out) g (c .loop-test .left) ∙ i .7 g y)
+    (omega (arith, i .4, ap length z), λ g y. map-end t n (l .c) (l .at) (l .out) g (c .loop-test .left) ∙ i .5 g y)
 
 pub put-all-labels-spec : {M : Type 1} → statement M
 put-all-labels-spec =
@@ -152,18 +145,14 @@ put-all-labels-spec =
     Inv-loop
     μ-loop
     layout-of-requires
+    first-place-requires
     loop-holds
     shift-of-requires
-    add-put-cross-labels
-    add-put-cross-labels-2
-    add-put-cross-labels-3
+    add-t15
+    add-t16
+    add-t17
     put-cross-labels-requires
-    add-byte
-    byte-requires
-    cast-bp
-    mul-bp
-    add-bp
-    add-cp
+    next-place-requires
     add-c
     loop-less
     loop-again

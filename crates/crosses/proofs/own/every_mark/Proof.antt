@@ -13,7 +13,9 @@ own-marks-requires : tie.Need-own-marks-requires
 own-marks-requires c κs = search needs
 
 returns-2 : tie.Need-returns-2
-returns-2 c = c .own-marks .ensures ∙ sym (ap (λ (x : Bool). cond x 0 (ownMarks 0 (take (c .before .before .before .args .n) (c .before .before .before .args .marks .now)))) (c .before .if1 .left))
+returns-2 c =
+    let a = c .before .before .before .before .args in
+    c .own-marks .ensures ∙ sym (ap (λ (x : Bool). cond x 0 (ownMarks 0 (take (a .n) (a .hits .now)) (take (a .n) (a .marks .now)))) (c .before .if1 .left))
 
 pub every-mark-spec : {M : Type 1} → statement M
 every-mark-spec = tie.close (tie.spec returns own-marks-requires returns-2)

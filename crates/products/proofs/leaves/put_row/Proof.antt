@@ -1,0 +1,150 @@
+use mathlib.Core.Path.{_≡_, sym, ap, _∙_, subst}
+use Prim.Native.Nat.{ℕ, _+_, _≤_, _<_}
+use lib.Dec.{eqb}
+use lib.ListN.{getD}
+use Rattle.model.specs.Lists.{asBit}
+use Rattle.model.specs.Values.{lowest, fieldValue}
+use Rattle.model.specs.Counters.{pointAt}
+use Rattle.model.specs.Format.{byte, u64, tableOf}
+use Rattle.model.specs.Register.{pointTotal}
+use Rattle.covers.proofs.Accepted.{few-covers}
+use Rattle.products.specs.Tokens.{tokenPoint}
+use Rattle.products.proofs.LeafRows.{row-named, row-meets, row-same}
+use borrow.Author.Needs.{needs}
+use Rattle.products.proofs.leaves.put_row.Statement.{statement}
+use Rattle.products.proofs.leaves.put_row.Tie as tie
+
+byte-requires : tie.Need-byte-requires
+byte-requires c κs = search needs
+
+add-byte : tie.Need-add-byte
+add-byte c = search needs
+
+byte-requires-2 : tie.Need-byte-requires-2
+byte-requires-2 c κs = search needs
+
+add-byte-2 : tie.Need-add-byte-2
+add-byte-2 c = search needs
+
+cast-byte : tie.Need-cast-byte
+cast-byte c = search needs
+
+add-byte-3 : tie.Need-add-byte-3
+add-byte-3 c = search needs
+
+byte-requires-3 : tie.Need-byte-requires-3
+byte-requires-3 c κs = search needs
+
+cast-p : tie.Need-cast-p
+cast-p c = search needs
+
+add-read2 : tie.Need-add-read2
+add-read2 c = search needs
+
+read2-requires : tie.Need-read2-requires
+read2-requires c κs = search needs
+
+mul-put-named : tie.Need-mul-put-named
+mul-put-named c = search needs
+
+put-named-requires : tie.Need-put-named-requires
+put-named-requires c κs = search needs
+
+same-length : tie.Need-same-length
+same-length c = search needs
+
+returns : tie.Need-returns
+returns c =
+    let a = c .before .before .before .before .before .before .before .before .before .before .before .before .args in
+    let s = a .t .now in
+    let ready = c .before .before .before .before .before .before .before .before .before .before .before .before .pre .1 .0 in
+    let legal = c .before .before .before .before .before .before .before .before .before .before .before .before .pre .1 .1 in
+    let inside = ready .points (byte s (a .k + 1)) (legal .position) in
+    let op : byte s (a .k) ≡ 1 = sym (c .before .before .before .before .before .before .before .before .byte .ensures) ∙ c .before .before .before .before .before .if1 .taken in
+    row-named (tableOf s) s (a .c) (a .k) (a .row) (a .leaves .now) (c .before .before .put-named .last .0) (c .before .before .before .before .before .before .before .before .before .before .before .before .pre .0 .0) (few-covers s (ready .whole) _ inside)
+    (a .origins .now) (c .before .before .before .before .read2 .result) (c .before .before .before .before .before .before .byte3 .result) (c .before .before .before .before .before .before .byte3 .ensures ∙ ap (λ (x : ℕ). getD s (a .c + 1 + x) 0) (c .before .before .before .before .before .before .before .byte2 .ensures)) (c .before .before .before .before .read2 .ensures) op (legal .bin op) inside (ready .from) (c .before .before .put-named .ensures)
+
+add-field : tie.Need-add-field
+add-field c = search needs
+
+field-requires : tie.Need-field-requires
+field-requires c κs = search needs
+
+add-field-2 : tie.Need-add-field-2
+add-field-2 c = search needs
+
+field-requires-2 : tie.Need-field-requires-2
+field-requires-2 c κs = search needs
+
+put-meeting-requires : tie.Need-put-meeting-requires
+put-meeting-requires c κs =
+    let a = c .before .before .before .before .before .before .before .before .before .before .before .args in
+    let s = a .t .now in
+    let ready = c .before .before .before .before .before .before .before .before .before .before .before .pre .1 .0 in
+    let legal = c .before .before .before .before .before .before .before .before .before .before .before .pre .1 .1 in
+    let inside = ready .points (byte s (a .k + 1)) (legal .position) in
+    let op : byte s (a .k) ≡ 2 = sym (c .before .before .before .before .before .before .before .byte .ensures) ∙ c .before .before .before .if2 .taken in
+    let ep : c .before .before .before .before .before .byte3 .result ≡ tokenPoint s (a .c) (a .k) = c .before .before .before .before .before .byte3 .ensures ∙ ap (λ (x : ℕ). getD s (a .c + 1 + x) 0) (c .before .before .before .before .before .before .byte2 .ensures) in (
+      (ready .whole, subst (λ (x : ℕ). x < pointTotal (tableOf s)) (sym ep) inside, c .before .before .before .before .before .before .before .before .before .before .before .pre .0 .0, subst (λ (x : ℕ). x ≤ 8589934592) (sym (c .before .before .field .ensures)) (legal .low op), subst (λ (x : ℕ). x ≤ 8589934591) (sym (c .before .field2 .ensures)) (legal .high op)),
+      subst (λ (x : ℕ). lowest (pointAt (tableOf s) (c .before .before .before .before .before .byte3 .result)) ≤ x) (sym (c .before .before .field .ensures)) (subst (λ (x : ℕ). lowest (pointAt (tableOf s) x) ≤ fieldValue (u64 s (a .k + 4))) (sym ep) (legal .least op)),
+    )
+
+same-length-2 : tie.Need-same-length-2
+same-length-2 c = search needs
+
+returns-2 : tie.Need-returns-2
+returns-2 c =
+    let a = c .before .before .before .before .before .before .before .before .before .before .before .before .before .before .args in
+    let s = a .t .now in
+    let op : byte s (a .k) ≡ 2 = sym (c .before .before .before .before .before .before .before .before .before .before .byte .ensures) ∙ c .before .before .before .before .before .before .if2 .taken in
+    row-meets (tableOf s) s (a .c) (a .k) (a .row) (a .leaves .now) (c .before .before .put-meeting .last .0) (c .before .before .before .before .before .before .before .before .before .before .before .before .before .before .pre .0 .0)
+    (c .before .before .before .before .before .field .result) (c .before .before .before .before .field2 .result) (c .before .before .before .before .before .before .before .before .byte3 .result) (c .before .before .before .before .before .before .before .before .byte3 .ensures ∙ ap (λ (x : ℕ). getD s (a .c + 1 + x) 0) (c .before .before .before .before .before .before .before .before .before .byte2 .ensures)) (c .before .before .before .before .before .field .ensures) (c .before .before .before .before .field2 .ensures) op (c .before .before .put-meeting .ensures)
+
+as-bit-requires : tie.Need-as-bit-requires
+as-bit-requires c κs = search needs
+
+put-same-requires : tie.Need-put-same-requires
+put-same-requires c κs = search needs
+
+same-length-3 : tie.Need-same-length-3
+same-length-3 c = search needs
+
+returns-3 : tie.Need-returns-3
+returns-3 c =
+    let a = c .before .before .before .before .before .before .before .before .before .before .before .before .before .args in
+    let s = a .t .now in
+    let ready = c .before .before .before .before .before .before .before .before .before .before .before .before .before .pre .1 .0 in
+    let legal = c .before .before .before .before .before .before .before .before .before .before .before .before .before .pre .1 .1 in
+    let inside = ready .points (byte s (a .k + 1)) (legal .position) in
+    row-same (tableOf s) s (a .c) (a .k) (a .row) (a .leaves .now) (c .before .before .put-same .last .0) (c .before .before .before .before .before .before .before .before .before .before .before .before .before .pre .0 .0) (few-covers s (ready .whole) _ inside)
+    (c .before .before .before .before .as-bit .result) (c .before .before .before .before .as-bit .ensures ∙ ap (λ (x : ℕ). asBit (eqb x 0)) (c .before .before .before .before .before .before .before .before .before .byte .ensures)) (λ e. c .before .before .before .before .before .before .if1 .left (c .before .before .before .before .before .before .before .before .before .byte .ensures ∙ e)) (λ e. c .before .before .before .before .before .if2 .left (c .before .before .before .before .before .before .before .before .before .byte .ensures ∙ e)) (c .before .before .put-same .ensures .1)
+
+pub put-row-spec : {M : Type 1} → statement M
+put-row-spec =
+    tie.close
+    (tie.spec
+    byte-requires
+    add-byte
+    byte-requires-2
+    add-byte-2
+    cast-byte
+    add-byte-3
+    byte-requires-3
+    cast-p
+    add-read2
+    read2-requires
+    mul-put-named
+    put-named-requires
+    same-length
+    returns
+    add-field
+    field-requires
+    add-field-2
+    field-requires-2
+    put-meeting-requires
+    same-length-2
+    returns-2
+    as-bit-requires
+    put-same-requires
+    same-length-3
+    returns-3)

@@ -1,0 +1,83 @@
+use mathlib.Core.Path.{_≡_, refl, _∙_}
+use Prim.Native.Nat.{_+_, _*_, _-_, _≤_}
+use lib.ListN.{length}
+use Rattle.model.specs.Format.{byte, tableOf}
+use Rattle.covers.proofs.Accepted.{few-covers}
+use Rattle.products.specs.Tokens.{RowsTold, TokensLegal}
+use Rattle.products.proofs.LeafRows.{no-rows, rows-more}
+use native.Mathlib.Omega.{arith}
+use Rattle.products.proofs.leaves.put_rows.Statement.{statement}
+use Rattle.products.proofs.leaves.put_rows.Tie as tie
+
+abbrev Inv-loop : tie.InvT-loop
+Inv-loop leaves₀ t origins c k n j₀ leaves j = (j ≤ n) × (length leaves ≡ length leaves₀) × RowsTold (tableOf t) t c k j leaves
+
+abbrev μ-loop : tie.MeasureT-loop
+μ-loop leaves₀ t origins c k n j₀ leaves j = n - j
+
+loop-holds : tie.Need-loop-holds Inv-loop μ-loop
+loop-holds c =
+    let a = c .before .before .before .args in
+    (omega arith, refl, no-rows (tableOf (a .t .now)) (a .t .now) (a .c) (a .k) (a .leaves .now))
+
+mul-put-row : tie.Need-mul-put-row Inv-loop μ-loop
+mul-put-row c = omega arith
+
+mul-put-row-2 : tie.Need-mul-put-row-2 Inv-loop μ-loop
+mul-put-row-2 c = omega arith
+
+add-put-row : tie.Need-add-put-row Inv-loop μ-loop
+add-put-row c = omega arith
+
+put-row-requires : tie.Need-put-row-requires Inv-loop μ-loop
+unfolding TokensLegal
+put-row-requires c κs =
+    let l = c .before .before .loop in
+    let pre = c .before .before .before .before .before .before .pre in
+    ((omega arith, omega arith, omega arith), (pre .1 .0, pre .1 .1 (l .j) (omega arith)))
+
+add-j : tie.Need-add-j Inv-loop μ-loop
+add-j c = omega arith
+
+loop-less : tie.Need-loop-less Inv-loop μ-loop
+loop-less c = omega arith
+
+loop-again : tie.Need-loop-again Inv-loop μ-loop
+unfolding TokensLegal
+loop-again c =
+    let a = c .before .before .before .before .before .before .before .before .before .args in
+    let s = a .t .now in
+    let l = c .before .before .before .before .before .loop in
+    let pre = c .before .before .before .before .before .before .before .before .before .pre in (
+      omega arith,
+      c .before .before .put-row .kept .0 ∙ l .inv .1,
+      rows-more (tableOf s) s (a .c) (a .k) (l .j) (λ j h. few-covers s (pre .1 .0 .whole) _ (pre .1 .0 .points (byte s (a .k + 20 * j + 1)) (pre .1 .1 j (omega arith) .position)))
+          (l .leaves) (c .before .before .put-row .last .0) (l .inv .2) (c .before .before .put-row .ensures .0) (c .before .before .put-row .ensures .1),
+    )
+
+same-length : tie.Need-same-length Inv-loop μ-loop
+same-length c = c .before .loop .inv .1
+
+returns : tie.Need-returns Inv-loop μ-loop
+returns c =
+    let a = c .before .before .before .before .before .args in
+    let l = c .before .loop in
+    let z : l .j ≡ a .n = omega arith in
+    rw z at (l .inv .2)
+
+pub put-rows-spec : {M : Type 1} → statement M
+put-rows-spec =
+    tie.close
+    (tie.spec
+    Inv-loop
+    μ-loop
+    loop-holds
+    mul-put-row
+    mul-put-row-2
+    add-put-row
+    put-row-requires
+    add-j
+    loop-less
+    loop-again
+    same-length
+    returns)
