@@ -28,20 +28,13 @@ fn add_bit(marks: &mut [u16], stack: &[u8], n: usize, weight: u16)
     }
 }
 
-// All products of a cross. The stack and the leaves are room for one bin's operands and rows; `origins` says which value bin each part comes of.
-pub fn mark_products(
-    marks: &mut [u16],
-    stack: &mut [u8],
-    leaves: &mut [u8],
-    t: &[u8],
-    origins: &[u16],
-    p: Place,
-    s: Shape,
-)
-    requires { ⌜ Stands (now t) p × Fits (tableOf (now t)) (p .number) s × Origins (tableOf (now t)) (now origins) ⌝ }
-    requires { ⌜ (1024 ≤ length (now marks)) × (17408 ≤ length (now stack)) × (8192 ≤ length (now leaves)) ⌝ }
+// All products of a cross; `origins` says which value bin each part comes of.
+pub fn mark_products(marks: &mut [u16], t: &[u8], origins: &[u16], p: Place, s: Shape)
+    requires { ⌜ Stands (now t) p × Fits (tableOf (now t)) (p .number) s × Origins (tableOf (now t)) (now origins) × (s .total ≤ length (now marks)) ⌝ }
     ensures { λ _. ⌜ take (s .total) (now (marks .exit)) ≡ crossMarks (tableOf (now (t .entry))) (p .number) ⌝ }
 {
+    let mut stack = [0u8; 17408];
+    let mut leaves = [0u8; 8192];
     let total = s.total;
     let at = p.cross;
     let n = byte(t, at + 12) as usize;
@@ -52,9 +45,9 @@ pub fn mark_products(
     let mut i = 0;
     while i < n {
         let m = byte(t, bin + 2) as usize;
-        put_rows(leaves, t, origins, at, token, m);
-        eval_all(stack, t, leaves, token, 0, m, s);
-        add_bit(marks, stack, total, weight as u16);
+        put_rows(&mut leaves, t, origins, at, token, m);
+        eval_all(&mut stack, t, &leaves, token, 0, m, s);
+        add_bit(marks, &stack, total, weight as u16);
         weight = 2 * weight;
         bin += 3;
         token += 20 * m;

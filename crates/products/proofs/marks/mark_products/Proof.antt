@@ -5,6 +5,7 @@ use lib.ListN.{length}
 use lib.Pow.{pow-mono, pow-add}
 use Rattle.model.specs.Format.{byte, tableOf}
 use Rattle.model.proofs.Lists.{one-left}
+use borrow.Author.Needs.{needs}
 use Rattle.products.specs.Single.{BinsSingle}
 use Rattle.products.specs.Shapes.{sizesOf}
 use Rattle.products.specs.Marks.{BinsLegal}
@@ -15,18 +16,18 @@ use Rattle.products.proofs.marks.mark_products.Statement.{statement}
 use Rattle.products.proofs.marks.mark_products.Tie as tie
 
 abbrev Inv-loop : tie.InvT-loop
-Inv-loop marks₀ stack₀ leaves₀ t origins s total at n weight₀ bin₀ token₀ i₀ marks stack leaves weight bin token i =
-    (i ≤ n) × (bin ≡ bin₀ + 3 * i) × (token ≤ token₀ + 640 * i) × (length marks ≡ length marks₀) × (length stack ≡ length stack₀) × (length leaves ≡ length leaves₀) × (weight ≡ 2 ^ i)
+Inv-loop marks₀ t origins s stack₀ leaves₀ total at n weight₀ bin₀ token₀ i₀ marks stack leaves weight bin token i =
+    (i ≤ n) × (bin ≡ bin₀ + 3 * i) × (token ≤ token₀ + 640 * i) × (length marks ≡ length marks₀) × (length stack ≡ 17408) × (length leaves ≡ 8192) × (weight ≡ 2 ^ i)
     × BinsSingle t bin token (n - i) × BinsLegal t at bin token (n - i) × Rest (tableOf t) t at bin₀ token₀ n bin token (n - i) weight total marks
 
 abbrev μ-loop : tie.MeasureT-loop
-μ-loop marks₀ stack₀ leaves₀ t origins s total at n weight₀ bin₀ token₀ i₀ marks stack leaves weight bin token i = n - i
+μ-loop marks₀ t origins s stack₀ leaves₀ total at n weight₀ bin₀ token₀ i₀ marks stack leaves weight bin token i = n - i
 
 add-byte : tie.Need-add-byte Inv-loop μ-loop
 add-byte c =
-    let a = c .before .before .before .before .before .args in
-    let pre = c .before .before .before .before .before .pre in
-    omega (arith, cross-placed (a .t .now) (a .p) (pre .0 .0) .near .0)
+    let a = c .before .before .before .args in
+    let pre = c .before .before .before .pre in
+    omega (arith, cross-placed (a .t .now) (a .p) (pre .0) .near .0)
 
 byte-requires : tie.Need-byte-requires Inv-loop μ-loop
 byte-requires c κs = tt
@@ -35,13 +36,13 @@ cast-n : tie.Need-cast-n Inv-loop μ-loop
 cast-n c = omega arith
 
 put-same-u16-requires : tie.Need-put-same-u16-requires Inv-loop μ-loop
-put-same-u16-requires c κs = omega (arith, c .before .before .before .before .before .before .before .pre .0 .1 .whole .small, c .before .before .before .before .before .before .before .pre .1 .0)
+put-same-u16-requires c κs = omega (arith, c .before .before .before .before .before .pre .1 .whole .small, c .before .before .before .before .before .pre .3)
 
 loop-holds : tie.Need-loop-holds Inv-loop μ-loop
 loop-holds c =
-    let a = c .before .before .before .before .before .before .before .before .before .before .args in
-    let pre = c .before .before .before .before .before .before .before .before .before .before .pre in
-    let good = cross-placed (a .t .now) (a .p) (pre .0 .0) in
+    let a = c .before .before .before .before .before .before .before .before .args in
+    let pre = c .before .before .before .before .before .before .before .before .pre in
+    let good = cross-placed (a .t .now) (a .p) (pre .0) in
     let n = c .before .before .before .before .byte .result in
     let z : byte (a .t .now) (a .p .cross + 12) ≡ n - 0 = omega (arith, c .before .before .before .before .byte .ensures) in
     let y : n ≡ n - 0 = omega arith in (
@@ -60,9 +61,9 @@ loop-holds c =
 
 add-byte-2 : tie.Need-add-byte-2 Inv-loop μ-loop
 add-byte-2 c =
-    let a = c .before .before .before .before .before .before .before .before .before .before .before .before .args in
-    let pre = c .before .before .before .before .before .before .before .before .before .before .before .before .pre in
-    omega (arith, c .before .loop .inv .1, cross-placed (a .t .now) (a .p) (pre .0 .0) .near .1, c .before .before .before .before .before .before .byte .ensures)
+    let a = c .before .before .before .before .before .before .before .before .before .before .args in
+    let pre = c .before .before .before .before .before .before .before .before .before .before .pre in
+    omega (arith, c .before .loop .inv .1, cross-placed (a .t .now) (a .p) (pre .0) .near .1, c .before .before .before .before .before .before .byte .ensures)
 
 byte-requires-2 : tie.Need-byte-requires-2 Inv-loop μ-loop
 byte-requires-2 c κs = tt
@@ -70,88 +71,100 @@ byte-requires-2 c κs = tt
 cast-m : tie.Need-cast-m Inv-loop μ-loop
 cast-m c = omega arith
 
+slice-aggregate-put-rows : tie.Need-slice-aggregate-put-rows Inv-loop μ-loop
+slice-aggregate-put-rows c = search needs
+
 put-rows-requires : tie.Need-put-rows-requires Inv-loop μ-loop
 put-rows-requires c κs =
-    let a = c .before .before .before .before .before .before .before .before .before .before .before .before .before .before .args in
-    let pre = c .before .before .before .before .before .before .before .before .before .before .before .before .before .before .pre in
+    let a = c .before .before .before .before .before .before .before .before .before .before .before .before .args in
+    let pre = c .before .before .before .before .before .before .before .before .before .before .before .before .pre in
     let l = c .before .before .before .loop in
     let h = c .before .before .loop-test .taken in
-    let good = cross-placed (a .t .now) (a .p) (pre .0 .0) in
+    let good = cross-placed (a .t .now) (a .p) (pre .0) in
     let n = c .before .before .before .before .before .before .before .before .byte in
     let m = c .before .byte2 in
     let count : n .result ≤ 16 = omega (arith, n .ensures, good .few) in
     let one = single-first (a .t .now) (a .p .cross) (l .bin) (l .token) (n .result) (l .i) h (m .result) (m .ensures) (l .inv .7) in
     let legal = legal-first (a .t .now) (a .p .cross) (l .bin) (l .token) (n .result) (l .i) h (m .result) (m .ensures) (l .inv .8) in
-    ((omega (arith, pre .1 .2, l .inv .5), legal .0, omega (arith, good .near .0), omega (arith, good .near .2, l .inv .2)), (made-ready (a .t .now) (a .p) (pre .0 .0) (a .origins .now) (pre .0 .2), legal .1))
+    ((omega (arith, l .inv .5), legal .0, omega (arith, good .near .0), omega (arith, good .near .2, l .inv .2)), (made-ready (a .t .now) (a .p) (pre .0) (a .origins .now) (pre .2), legal .1))
+
+slice-aggregate-eval-all : tie.Need-slice-aggregate-eval-all Inv-loop μ-loop
+slice-aggregate-eval-all c = search needs
+
+slice-aggregate-eval-all-2 : tie.Need-slice-aggregate-eval-all-2 Inv-loop μ-loop
+slice-aggregate-eval-all-2 c = search needs
 
 eval-all-requires : tie.Need-eval-all-requires Inv-loop μ-loop
 eval-all-requires c κs =
-    let a = c .before .before .before .before .before .before .before .before .before .before .before .before .before .before .before .before .before .before .before .args in
-    let pre = c .before .before .before .before .before .before .before .before .before .before .before .before .before .before .before .before .before .before .before .pre in
-    let l = c .before .before .before .before .before .before .before .before .loop in
-    let h = c .before .before .before .before .before .before .before .loop-test .taken in
-    let good = cross-placed (a .t .now) (a .p) (pre .0 .0) in
-    let n = c .before .before .before .before .before .before .before .before .before .before .before .before .before .byte in
-    let m = c .before .before .before .before .before .before .byte2 in
+    let a = c .before .before .before .before .before .before .before .before .before .before .before .before .before .before .before .before .args in
+    let pre = c .before .before .before .before .before .before .before .before .before .before .before .before .before .before .before .before .pre in
+    let l = c .before .before .before .before .before .before .before .loop in
+    let h = c .before .before .before .before .before .before .loop-test .taken in
+    let good = cross-placed (a .t .now) (a .p) (pre .0) in
+    let n = c .before .before .before .before .before .before .before .before .before .before .before .before .byte in
+    let m = c .before .before .before .before .before .byte2 in
     let count : n .result ≤ 16 = omega (arith, n .ensures, good .few) in
     let one = single-first (a .t .now) (a .p .cross) (l .bin) (l .token) (n .result) (l .i) h (m .result) (m .ensures) (l .inv .7) in
     let legal = legal-first (a .t .now) (a .p .cross) (l .bin) (l .token) (n .result) (l .i) h (m .result) (m .ensures) (l .inv .8) in
-    (omega (arith, good .near .2, l .inv .2), omega (arith, legal .0), pre .0 .1 .whole, omega (arith, legal .0, l .inv .4, pre .1 .1))
+    (omega (arith, good .near .2, l .inv .2), omega (arith, legal .0), pre .1 .whole, omega (arith, legal .0, l .inv .4))
+
+slice-aggregate-add-bit : tie.Need-slice-aggregate-add-bit Inv-loop μ-loop
+slice-aggregate-add-bit c = search needs
 
 cast-add-bit : tie.Need-cast-add-bit Inv-loop μ-loop
 cast-add-bit c =
-    let a = c .before .before .before .before .before .before .before .before .before .before .before .before .before .before .before .before .before .before .before .before .before .before .before .before .args in
-    let pre = c .before .before .before .before .before .before .before .before .before .before .before .before .before .before .before .before .before .before .before .before .before .before .before .before .pre in
-    let l = c .before .before .before .before .before .before .before .before .before .before .before .before .before .loop in
-    let h = c .before .before .before .before .before .before .before .before .before .before .before .before .loop-test .taken in
-    let good = cross-placed (a .t .now) (a .p) (pre .0 .0) in
-    let n = c .before .before .before .before .before .before .before .before .before .before .before .before .before .before .before .before .before .before .byte in
-    let m = c .before .before .before .before .before .before .before .before .before .before .before .byte2 in
+    let a = c .before .before .before .before .before .before .before .before .before .before .before .before .before .before .before .before .before .before .before .before .args in
+    let pre = c .before .before .before .before .before .before .before .before .before .before .before .before .before .before .before .before .before .before .before .before .pre in
+    let l = c .before .before .before .before .before .before .before .before .before .before .before .loop in
+    let h = c .before .before .before .before .before .before .before .before .before .before .loop-test .taken in
+    let good = cross-placed (a .t .now) (a .p) (pre .0) in
+    let n = c .before .before .before .before .before .before .before .before .before .before .before .before .before .before .before .before .byte in
+    let m = c .before .before .before .before .before .before .before .before .before .byte2 in
     let count : n .result ≤ 16 = omega (arith, n .ensures, good .few) in
     let one = single-first (a .t .now) (a .p .cross) (l .bin) (l .token) (n .result) (l .i) h (m .result) (m .ensures) (l .inv .7) in
     let legal = legal-first (a .t .now) (a .p .cross) (l .bin) (l .token) (n .result) (l .i) h (m .result) (m .ensures) (l .inv .8) in
-    omega (arith, c .before .before .before .before .before .before .before .before .before .before .before .before .before .loop .inv .6, pow-mono {i = c .before .before .before .before .before .before .before .before .before .before .before .before .before .loop .i} {j = 15} (omega (arith, count, h)))
+    omega (arith, c .before .before .before .before .before .before .before .before .before .before .before .loop .inv .6, pow-mono {i = c .before .before .before .before .before .before .before .before .before .before .before .loop .i} {j = 15} (omega (arith, count, h)))
 
 add-bit-requires : tie.Need-add-bit-requires Inv-loop μ-loop
 add-bit-requires c κs =
-    let a = c .before .before .before .before .before .before .before .before .before .before .before .before .before .before .before .before .before .before .before .before .before .before .before .before .args in
-    let pre = c .before .before .before .before .before .before .before .before .before .before .before .before .before .before .before .before .before .before .before .before .before .before .before .before .pre in
-    let l = c .before .before .before .before .before .before .before .before .before .before .before .before .before .loop in
-    let h = c .before .before .before .before .before .before .before .before .before .before .before .before .loop-test .taken in
-    let good = cross-placed (a .t .now) (a .p) (pre .0 .0) in
-    let n = c .before .before .before .before .before .before .before .before .before .before .before .before .before .before .before .before .before .before .byte in
-    let m = c .before .before .before .before .before .before .before .before .before .before .before .byte2 in
+    let a = c .before .before .before .before .before .before .before .before .before .before .before .before .before .before .before .before .before .before .before .before .args in
+    let pre = c .before .before .before .before .before .before .before .before .before .before .before .before .before .before .before .before .before .before .before .before .pre in
+    let l = c .before .before .before .before .before .before .before .before .before .before .before .loop in
+    let h = c .before .before .before .before .before .before .before .before .before .before .loop-test .taken in
+    let good = cross-placed (a .t .now) (a .p) (pre .0) in
+    let n = c .before .before .before .before .before .before .before .before .before .before .before .before .before .before .before .before .byte in
+    let m = c .before .before .before .before .before .before .before .before .before .byte2 in
     let count : n .result ≤ 16 = omega (arith, n .ensures, good .few) in
     let one = single-first (a .t .now) (a .p .cross) (l .bin) (l .token) (n .result) (l .i) h (m .result) (m .ensures) (l .inv .7) in
     let legal = legal-first (a .t .now) (a .p .cross) (l .bin) (l .token) (n .result) (l .i) h (m .result) (m .ensures) (l .inv .8) in
-    let rows = c .before .before .before .before .before .before .before .before .before .put-rows in
-    let v = c .before .before .before .before .eval-all in
-    let chose = chosen (tableOf (a .t .now)) (a .t .now) (a .p .cross) (sizesOf (a .s)) (sizes-parts (a .t .now) (a .p) (pre .0 .0) (a .s) (pre .0 .1)) (a .s .total) (pre .0 .1 .whole .all) (rows .last .0) (l .token) (m .result) (legal .0) (rows .ensures) (legal .1) (one .0) (v .result) (v .last .0) (v .ensures .1) in
-    (omega (arith, pre .1 .0, pre .0 .1 .whole .small, l .inv .3, c .before .before .before .before .before .before .before .before .before .before .before .before .before .before .before .before .put-same-u16 .kept .0), omega (arith, pre .1 .1, pre .0 .1 .whole .small, l .inv .4, v .kept .0), omega (arith, c .before .before .before .before .before .before .before .before .before .before .before .before .before .loop .inv .6, pow-mono {i = c .before .before .before .before .before .before .before .before .before .before .before .before .before .loop .i} {j = 15} (omega (arith, count, h))), l .inv .9 .below, bits-below (tableOf (a .t .now)) (a .t .now) (a .p .cross) (l .token) (m .result) (a .s .total) (v .last .0) chose)
+    let rows = c .before .before .before .before .before .before .before .put-rows in
+    let v = c .before .before .before .eval-all in
+    let chose = chosen (tableOf (a .t .now)) (a .t .now) (a .p .cross) (sizesOf (a .s)) (sizes-parts (a .t .now) (a .p) (pre .0) (a .s) (pre .1)) (a .s .total) (pre .1 .whole .all) (rows .last .0) (l .token) (m .result) (legal .0) (rows .ensures) (legal .1) (one .0) (v .result) (v .last .0) (v .ensures .1) in
+    (omega (arith, pre .3, pre .1 .whole .small, l .inv .3, c .before .before .before .before .before .before .before .before .before .before .before .before .before .before .put-same-u16 .kept .0), omega (arith, pre .1 .whole .small, l .inv .4, v .kept .0), omega (arith, c .before .before .before .before .before .before .before .before .before .before .before .loop .inv .6, pow-mono {i = c .before .before .before .before .before .before .before .before .before .before .before .loop .i} {j = 15} (omega (arith, count, h))), l .inv .9 .below, bits-below (tableOf (a .t .now)) (a .t .now) (a .p .cross) (l .token) (m .result) (a .s .total) (v .last .0) chose)
 
 mul-weight : tie.Need-mul-weight Inv-loop μ-loop
 mul-weight c =
-    let a = c .before .before .before .before .before .before .before .before .before .before .before .before .before .before .before .before .before .before .before .before .before .before .before .before .before .before .before .args in
-    let pre = c .before .before .before .before .before .before .before .before .before .before .before .before .before .before .before .before .before .before .before .before .before .before .before .before .before .before .before .pre in
-    let l = c .before .before .before .before .before .before .before .before .before .before .before .before .before .before .before .before .loop in
-    let h = c .before .before .before .before .before .before .before .before .before .before .before .before .before .before .before .loop-test .taken in
-    let good = cross-placed (a .t .now) (a .p) (pre .0 .0) in
-    let n = c .before .before .before .before .before .before .before .before .before .before .before .before .before .before .before .before .before .before .before .before .before .byte in
-    let m = c .before .before .before .before .before .before .before .before .before .before .before .before .before .before .byte2 in
+    let a = c .before .before .before .before .before .before .before .before .before .before .before .before .before .before .before .before .before .before .before .before .before .before .before .args in
+    let pre = c .before .before .before .before .before .before .before .before .before .before .before .before .before .before .before .before .before .before .before .before .before .before .before .pre in
+    let l = c .before .before .before .before .before .before .before .before .before .before .before .before .before .before .loop in
+    let h = c .before .before .before .before .before .before .before .before .before .before .before .before .before .loop-test .taken in
+    let good = cross-placed (a .t .now) (a .p) (pre .0) in
+    let n = c .before .before .before .before .before .before .before .before .before .before .before .before .before .before .before .before .before .before .before .byte in
+    let m = c .before .before .before .before .before .before .before .before .before .before .before .before .byte2 in
     let count : n .result ≤ 16 = omega (arith, n .ensures, good .few) in
     let one = single-first (a .t .now) (a .p .cross) (l .bin) (l .token) (n .result) (l .i) h (m .result) (m .ensures) (l .inv .7) in
     let legal = legal-first (a .t .now) (a .p .cross) (l .bin) (l .token) (n .result) (l .i) h (m .result) (m .ensures) (l .inv .8) in
-    omega (arith, c .before .before .before .before .before .before .before .before .before .before .before .before .before .before .before .before .loop .inv .6, pow-mono {i = c .before .before .before .before .before .before .before .before .before .before .before .before .before .before .before .before .loop .i} {j = 15} (omega (arith, count, h)))
+    omega (arith, c .before .before .before .before .before .before .before .before .before .before .before .before .before .before .loop .inv .6, pow-mono {i = c .before .before .before .before .before .before .before .before .before .before .before .before .before .before .loop .i} {j = 15} (omega (arith, count, h)))
 
 add-bin : tie.Need-add-bin Inv-loop μ-loop
 add-bin c =
-    let a = c .before .before .before .before .before .before .before .before .before .before .before .before .before .before .before .before .before .before .before .before .before .before .before .before .before .before .before .args in
-    let pre = c .before .before .before .before .before .before .before .before .before .before .before .before .before .before .before .before .before .before .before .before .before .before .before .before .before .before .before .pre in
-    let l = c .before .before .before .before .before .before .before .before .before .before .before .before .before .before .before .before .loop in
-    let h = c .before .before .before .before .before .before .before .before .before .before .before .before .before .before .before .loop-test .taken in
-    let good = cross-placed (a .t .now) (a .p) (pre .0 .0) in
-    let n = c .before .before .before .before .before .before .before .before .before .before .before .before .before .before .before .before .before .before .before .before .before .byte in
-    let m = c .before .before .before .before .before .before .before .before .before .before .before .before .before .before .byte2 in
+    let a = c .before .before .before .before .before .before .before .before .before .before .before .before .before .before .before .before .before .before .before .before .before .before .before .args in
+    let pre = c .before .before .before .before .before .before .before .before .before .before .before .before .before .before .before .before .before .before .before .before .before .before .before .pre in
+    let l = c .before .before .before .before .before .before .before .before .before .before .before .before .before .before .loop in
+    let h = c .before .before .before .before .before .before .before .before .before .before .before .before .before .loop-test .taken in
+    let good = cross-placed (a .t .now) (a .p) (pre .0) in
+    let n = c .before .before .before .before .before .before .before .before .before .before .before .before .before .before .before .before .before .before .before .byte in
+    let m = c .before .before .before .before .before .before .before .before .before .before .before .before .byte2 in
     let count : n .result ≤ 16 = omega (arith, n .ensures, good .few) in
     let one = single-first (a .t .now) (a .p .cross) (l .bin) (l .token) (n .result) (l .i) h (m .result) (m .ensures) (l .inv .7) in
     let legal = legal-first (a .t .now) (a .p .cross) (l .bin) (l .token) (n .result) (l .i) h (m .result) (m .ensures) (l .inv .8) in
@@ -162,13 +175,13 @@ mul-token c = omega arith
 
 add-token : tie.Need-add-token Inv-loop μ-loop
 add-token c =
-    let a = c .before .before .before .before .before .before .before .before .before .before .before .before .before .before .before .before .before .before .before .before .before .before .before .before .before .before .before .args in
-    let pre = c .before .before .before .before .before .before .before .before .before .before .before .before .before .before .before .before .before .before .before .before .before .before .before .before .before .before .before .pre in
-    let l = c .before .before .before .before .before .before .before .before .before .before .before .before .before .before .before .before .loop in
-    let h = c .before .before .before .before .before .before .before .before .before .before .before .before .before .before .before .loop-test .taken in
-    let good = cross-placed (a .t .now) (a .p) (pre .0 .0) in
-    let n = c .before .before .before .before .before .before .before .before .before .before .before .before .before .before .before .before .before .before .before .before .before .byte in
-    let m = c .before .before .before .before .before .before .before .before .before .before .before .before .before .before .byte2 in
+    let a = c .before .before .before .before .before .before .before .before .before .before .before .before .before .before .before .before .before .before .before .before .before .before .before .args in
+    let pre = c .before .before .before .before .before .before .before .before .before .before .before .before .before .before .before .before .before .before .before .before .before .before .before .pre in
+    let l = c .before .before .before .before .before .before .before .before .before .before .before .before .before .before .loop in
+    let h = c .before .before .before .before .before .before .before .before .before .before .before .before .before .loop-test .taken in
+    let good = cross-placed (a .t .now) (a .p) (pre .0) in
+    let n = c .before .before .before .before .before .before .before .before .before .before .before .before .before .before .before .before .before .before .before .byte in
+    let m = c .before .before .before .before .before .before .before .before .before .before .before .before .byte2 in
     let count : n .result ≤ 16 = omega (arith, n .ensures, good .few) in
     let one = single-first (a .t .now) (a .p .cross) (l .bin) (l .token) (n .result) (l .i) h (m .result) (m .ensures) (l .inv .7) in
     let legal = legal-first (a .t .now) (a .p .cross) (l .bin) (l .token) (n .result) (l .i) h (m .result) (m .ensures) (l .inv .8) in
@@ -182,20 +195,20 @@ loop-less c = omega arith
 
 loop-again : tie.Need-loop-again Inv-loop μ-loop
 loop-again c =
-    let a = c .before .before .before .before .before .before .before .before .before .before .before .before .before .before .before .before .before .before .before .before .before .before .before .before .before .before .before .args in
-    let pre = c .before .before .before .before .before .before .before .before .before .before .before .before .before .before .before .before .before .before .before .before .before .before .before .before .before .before .before .pre in
-    let l = c .before .before .before .before .before .before .before .before .before .before .before .before .before .before .before .before .loop in
-    let h = c .before .before .before .before .before .before .before .before .before .before .before .before .before .before .before .loop-test .taken in
-    let good = cross-placed (a .t .now) (a .p) (pre .0 .0) in
-    let n = c .before .before .before .before .before .before .before .before .before .before .before .before .before .before .before .before .before .before .before .before .before .byte in
-    let m = c .before .before .before .before .before .before .before .before .before .before .before .before .before .before .byte2 in
+    let a = c .before .before .before .before .before .before .before .before .before .before .before .before .before .before .before .before .before .before .before .before .before .before .before .args in
+    let pre = c .before .before .before .before .before .before .before .before .before .before .before .before .before .before .before .before .before .before .before .before .before .before .before .pre in
+    let l = c .before .before .before .before .before .before .before .before .before .before .before .before .before .before .loop in
+    let h = c .before .before .before .before .before .before .before .before .before .before .before .before .before .loop-test .taken in
+    let good = cross-placed (a .t .now) (a .p) (pre .0) in
+    let n = c .before .before .before .before .before .before .before .before .before .before .before .before .before .before .before .before .before .before .before .byte in
+    let m = c .before .before .before .before .before .before .before .before .before .before .before .before .byte2 in
     let count : n .result ≤ 16 = omega (arith, n .ensures, good .few) in
     let one = single-first (a .t .now) (a .p .cross) (l .bin) (l .token) (n .result) (l .i) h (m .result) (m .ensures) (l .inv .7) in
     let legal = legal-first (a .t .now) (a .p .cross) (l .bin) (l .token) (n .result) (l .i) h (m .result) (m .ensures) (l .inv .8) in
-    let rows = c .before .before .before .before .before .before .before .before .before .before .before .before .put-rows in
-    let v = c .before .before .before .before .before .before .before .eval-all in
+    let rows = c .before .before .before .before .before .before .before .before .before .before .put-rows in
+    let v = c .before .before .before .before .before .before .eval-all in
     let add = c .before .before .add-bit in
-    let chose = chosen (tableOf (a .t .now)) (a .t .now) (a .p .cross) (sizesOf (a .s)) (sizes-parts (a .t .now) (a .p) (pre .0 .0) (a .s) (pre .0 .1)) (a .s .total) (pre .0 .1 .whole .all) (rows .last .0) (l .token) (m .result) (legal .0) (rows .ensures) (legal .1) (one .0) (v .result) (v .last .0) (v .ensures .1) in (
+    let chose = chosen (tableOf (a .t .now)) (a .t .now) (a .p .cross) (sizesOf (a .s)) (sizes-parts (a .t .now) (a .p) (pre .0) (a .s) (pre .1)) (a .s .total) (pre .1 .whole .all) (rows .last .0) (l .token) (m .result) (legal .0) (rows .ensures) (legal .1) (one .0) (v .result) (v .last .0) (v .ensures .1) in (
       omega (arith, h),
       omega (arith, l .inv .1),
       omega (arith, l .inv .2, legal .0),
@@ -211,19 +224,13 @@ loop-again c =
 same-length : tie.Need-same-length Inv-loop μ-loop
 same-length c = c .before .loop .inv .3 ∙ c .before .before .before .before .put-same-u16 .kept .0
 
-same-length-2 : tie.Need-same-length-2 Inv-loop μ-loop
-same-length-2 c = c .before .loop .inv .4
-
-same-length-3 : tie.Need-same-length-3 Inv-loop μ-loop
-same-length-3 c = c .before .loop .inv .5
-
 returns : tie.Need-returns Inv-loop μ-loop
 returns c =
-    let a = c .before .before .before .before .before .before .before .before .before .before .before .before .args in
-    let pre = c .before .before .before .before .before .before .before .before .before .before .before .before .pre in
+    let a = c .before .before .before .before .before .before .before .before .before .before .args in
+    let pre = c .before .before .before .before .before .before .before .before .before .before .pre in
     let l = c .before .loop in
     let n = c .before .before .before .before .before .before .byte in
-    marks-are (a .t .now) (a .p) (pre .0 .0) (a .s) (pre .0 .1) (n .result) (n .ensures) (l .marks) (omega (arith, pre .1 .0, pre .0 .1 .whole .small, l .inv .3, c .before .before .before .before .put-same-u16 .kept .0))
+    marks-are (a .t .now) (a .p) (pre .0) (a .s) (pre .1) (n .result) (n .ensures) (l .marks) (omega (arith, pre .3, pre .1 .whole .small, l .inv .3, c .before .before .before .before .put-same-u16 .kept .0))
     (rest-end (tableOf (a .t .now)) (a .t .now) (a .p .cross) (a .p .bins) (a .p .tokens) (n .result) (l .bin) (l .token) (n .result - l .i) (l .weight) (a .s .total) (l .marks) (l .inv .9) (omega arith))
 
 pub mark-products-spec : {M : Type 1} → statement M
@@ -240,8 +247,12 @@ mark-products-spec =
     add-byte-2
     byte-requires-2
     cast-m
+    slice-aggregate-put-rows
     put-rows-requires
+    slice-aggregate-eval-all
+    slice-aggregate-eval-all-2
     eval-all-requires
+    slice-aggregate-add-bit
     cast-add-bit
     add-bit-requires
     mul-weight
@@ -252,6 +263,4 @@ mark-products-spec =
     loop-less
     loop-again
     same-length
-    same-length-2
-    same-length-3
     returns)
