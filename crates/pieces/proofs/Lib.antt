@@ -5,3 +5,4 @@ pub mod MetLaws
 pub mod SearchLaws
 pub mod PlanLaws
 pub mod BuildLaws
+pub mod PlanTurns
