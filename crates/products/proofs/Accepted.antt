@@ -10,7 +10,7 @@ use lib.ListN.{length, getD}
 use borrow.Author.Tests.{leb-true, ltb-true, eqb-true}
 use Rattle.model.specs.Lists.{upFrom}
 use Rattle.model.specs.Table.{Point, CrossBin, Cross, Table, noPoint, noCross}
-use Rattle.model.specs.Values.{fieldValue, lowest, highest}
+use Rattle.model.specs.Values.{fieldValue, inType}
 use Rattle.model.specs.Counters.{pointAt, crossAt}
 use Rattle.model.specs.Format.{Test, BinHead, got, each, byte, u16, u64, field, unused, valueTests, crossPoints, crossPointTest, crossTests, crossHead, binHead, coverBinOf, CrossParts, CrossBinHead, crossBinTests, crossBinHead, readCross, readCrossBin, readCrossBins, tokenRules, tokenTests, tokenRecord, readToken, readSelect, readSelects, readBinSection, readRangeSection, readTransitionBins, readCrossSection, readCrossBinSection, readTokenSection, readCrosses, readTable, decode, decoded, accepted, tableOf}
 use Rattle.model.specs.Raw.{countPlace, recordCount, recordsPlace, rows, crossBinHeadsAt, crossHeadsAt}
@@ -71,16 +71,13 @@ names-bin parts p op i b lo hi names at h e = go (subst (λ (x : ℕ). AllPass (
     go : AllPass (tokenRules parts p 1 i b lo hi names at) → names ≡ true
     go k = k .1 .1 .1 .1 .1 .0
 
-values-in : (parts : ℕ) (p : Point) → GoodPoint p → (op i b lo hi : ℕ) (names : Bool) (at : ℕ) → AllPass (tokenRules parts p op i b lo hi names at) → op ≡ 2
-    → (lowest p ≤ fieldValue lo) × (fieldValue lo ≤ 8589934591) × (fieldValue hi ≤ 8589934591)
+values-in : (parts : ℕ) (p : Point) (op i b lo hi : ℕ) (names : Bool) (at : ℕ) → AllPass (tokenRules parts p op i b lo hi names at) → op ≡ 2
+    → (inType p (fieldValue lo) ≡ true) × (inType p (fieldValue hi) ≡ true)
 unfolding tokenRules valueTests
-values-in parts p good op i b lo hi names at h e = go (subst (λ (x : ℕ). AllPass (tokenRules parts p x i b lo hi names at)) e h)
+values-in parts p op i b lo hi names at h e = go (subst (λ (x : ℕ). AllPass (tokenRules parts p x i b lo hi names at)) e h)
   where
-    top : (v : ℕ) → (leb (lowest p) v && leb v (highest p)) ≡ true → v ≤ 8589934591
-    top v e = omega (arith, leb-true v (highest p) (and-right (leb (lowest p) v) (leb v (highest p)) e), leb-true (lowest p) v (and-left (leb (lowest p) v) (leb v (highest p)) e), type-bound p good)
-
-    go : AllPass (tokenRules parts p 2 i b lo hi names at) → (lowest p ≤ fieldValue lo) × (fieldValue lo ≤ 8589934591) × (fieldValue hi ≤ 8589934591)
-    go k = (leb-true (lowest p) (fieldValue lo) (and-left (leb (lowest p) (fieldValue lo)) (leb (fieldValue lo) (highest p)) (k .1 .1 .1 .0)), top (fieldValue lo) (k .1 .1 .1 .0), top (fieldValue hi) (k .1 .1 .1 .1 .0))
+    go : AllPass (tokenRules parts p 2 i b lo hi names at) → (inType p (fieldValue lo) ≡ true) × (inType p (fieldValue hi) ≡ true)
+    go k = (k .1 .1 .1 .0, k .1 .1 .1 .1 .0)
 
 names-small : (bins : List BinHead) (p b : ℕ) → coverBinOf bins p b ≡ true → b < length bins
 unfolding coverBinOf
@@ -99,15 +96,14 @@ module _ (s : List ℕ) (ps : List Point) (bins : List BinHead) (good : (p : ℕ
       let n : length points ≡ byte s c = length-row (λ i. byte s (c + 1 + i)) 0 (byte s c) in
       let g : ℕ → ℕ = λ i. byte s (c + 1 + i) in
       let position = position-in (length points) (getD ps q noPoint) (byte s at) (byte s (at + 1)) (u16 s (at + 2)) (u64 s (at + 4)) (u64 s (at + 12)) names at h (omega arith) in
-      let values = values-in (length points) (getD ps q noPoint) (good q) (byte s at) (byte s (at + 1)) (u16 s (at + 2)) (u64 s (at + 4)) (u64 s (at + 12)) names at h in
+      let values = values-in (length points) (getD ps q noPoint) (byte s at) (byte s (at + 1)) (u16 s (at + 2)) (u64 s (at + 4)) (u64 s (at + 12)) names at h in
       let place : q ≡ tokenPoint s c at = getD-row g 0 (byte s c) (byte s (at + 1)) 0 (omega arith) ∙ ap g (let z : 0 + byte s (at + 1) ≡ byte s (at + 1) = omega arith in z) in
       let here : getD ps q noPoint ≡ pointAt (tableOf s) (tokenPoint s c at) = same q ∙ ap (pointAt (tableOf s)) place in
       record {
         position = omega arith;
         bin = λ e. omega (arith, names-small bins q (u16 s (at + 2)) (names-bin (length points) (getD ps q noPoint) (byte s at) (byte s (at + 1)) (u16 s (at + 2)) (u64 s (at + 4)) (u64 s (at + 12)) names at h e));
-        least = λ e. subst (λ (x : Point). lowest x ≤ fieldValue (u64 s (at + 4))) here (values e .0);
-        low = λ e. omega (arith, values e .1);
-        high = λ e. values e .2;
+        low = λ e. subst (λ (x : Point). inType x (fieldValue (u64 s (at + 4))) ≡ true) here (values e .0);
+        high = λ e. subst (λ (x : Point). inType x (fieldValue (u64 s (at + 12))) ≡ true) here (values e .1);
       }
 
   -- of one bin

@@ -8,19 +8,20 @@ use native.Mathlib.Omega.{arith}
 use lib.Dec.{eqb, leb}
 use lib.ListN.{length, getD, drop, replicate, length-map, length-replicate, getD-replicate}
 use borrow.Author.Tests.{eqb-true, eq-eqb, ne-eqb, leb-true, leb-false}
-use Rattle.model.specs.Lists.{pairUp, asBit}
+use Rattle.model.specs.Lists.{asBit}
 use Rattle.model.specs.Table.{Table}
 use Rattle.model.specs.Values.{fieldValue}
 use Rattle.model.specs.Counters.{CoverBin, listed, auto, noCoverBin, isFrom, meets}
 use Rattle.model.specs.Format.{byte, u16, u64}
 use Rattle.model.specs.Register.{pointTotal}
 use Rattle.model.proofs.Booleans.{bool-eq}
-use Rattle.model.proofs.Lists.{length-row, getD-row, getD-map, drop-replicate, pair-same}
+use Rattle.model.proofs.Lists.{length-row, getD-row, getD-map}
 use Rattle.arrays.specs.Put.{put}
-use Rattle.arrays.specs.Flat.{covers, origin, Origins, meetBit}
+use Rattle.arrays.specs.Flat.{covers, origin, Origins}
 use Rattle.arrays.proofs.PutLaws.{put-in, put-before}
+use Rattle.pieces.specs.Pieces.{metBit, metBits}
 use Rattle.products.specs.Told.{leafBit}
-use Rattle.products.specs.Tokens.{tokenPoint, tokenBit, RowTold, RowsTold, Kept, namedBit, namedFrom, meetingBit, meetingBits}
+use Rattle.products.specs.Tokens.{tokenPoint, tokenBit, RowTold, RowsTold, Kept, namedBit, namedFrom}
 
 -- ---- a row of names
 
@@ -30,14 +31,6 @@ same-test a b = bool-eq _ _ (λ e. eq-eqb b a (sym (eqb-true a b e))) (λ e. eq-
 origin-from : (b : ℕ) (c : CoverBin) → b < 65535 → eqb (origin c) b ≡ isFrom b c
 origin-from b (listed b′ k) h = same-test b′ b
 origin-from b (auto p k) h = ne-eqb 65535 b (λ e. omega arith)
-
--- ---- a row of meetings
-
-pub all-meet : (t : Table) (p lo hi : ℕ) → p < 16 → length (covers t p) ≤ 256 → pairUp (meetBit t lo hi) (covers t p) (drop (256 * p) (replicate 4096 1)) ≡ meetingBits t p lo hi
-unfolding meetingBits
-all-meet t p lo hi h few =
-    ap (pairUp (meetBit t lo hi) (covers t p)) (drop-replicate (256 * p) 4096 1)
-    ∙ pair-same (meetBit t lo hi) (meetingBit t lo hi) 1 (λ c. refl) (covers t p) (4096 - 256 * p) (omega arith)
 
 -- ---- the row of one token
 
@@ -85,12 +78,12 @@ module _ (t : Table) (s : List ℕ) (c at row : ℕ) (l l′ : List ℕ) (room :
         other (suc (suc (suc n))) n₁ n₂ x = sym (ap asBit (ne-eqb (suc (suc (suc n))) 0 (λ z. omega arith)))
 
   pub row-meets : (lo hi p : ℕ) → p ≡ tokenPoint s c at → lo ≡ fieldValue (u64 s (at + 4)) → hi ≡ fieldValue (u64 s (at + 12)) → byte s at ≡ 2
-      → l′ ≡ put row (meetingBits t p lo hi) l → RowTold t s c at row l′ × Kept row l l′
-  unfolding meetingBits
+      → l′ ≡ put row (metBits t p lo hi) l → RowTold t s c at row l′ × Kept row l l′
+  unfolding metBits
   row-meets lo hi p ep el eh op e =
-      told (map (meetingBit t lo hi) (covers t (tokenPoint s c at))) (e ∙ ap (λ (x : ℕ). put row (map (meetingBit t lo hi) (covers t x)) l) ep) λ d h. (
-        omega (arith, length-map (covers t (tokenPoint s c at)) (meetingBit t lo hi)),
-        getD-map (meetingBit t lo hi) mine d noCoverBin 0 h
+      told (map (metBit t lo hi) (covers t (tokenPoint s c at))) (e ∙ ap (λ (x : ℕ). put row (map (metBit t lo hi) (covers t x)) l) ep) λ d h. (
+        omega (arith, length-map (covers t (tokenPoint s c at)) (metBit t lo hi)),
+        getD-map (metBit t lo hi) mine d noCoverBin 0 h
             ∙ ap₂ (λ (x y : ℕ). asBit (meets t (getD mine d noCoverBin) x y)) el eh
             ∙ sym (meeting (getD mine d noCoverBin)),
       )

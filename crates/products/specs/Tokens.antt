@@ -9,11 +9,14 @@ use lib.Dec.{eqb}
 use lib.ListN.{length, getD}
 use Rattle.model.specs.Lists.{upFrom, asBit}
 use Rattle.model.specs.Table.{Table}
-use Rattle.model.specs.Values.{lowest, fieldValue}
+use Rattle.model.specs.Values.{fieldValue, inType}
 use Rattle.model.specs.Counters.{CoverBin, noCoverBin, pointAt, meets}
 use Rattle.model.specs.Format.{byte, u16, u64, accepted, tableOf}
 use Rattle.model.specs.Register.{pointTotal}
 use Rattle.arrays.specs.Flat.{covers, Origins}
+use Rattle.pieces.specs.Plan.{ValuesPlan}
+use Rattle.products.specs.Shapes.{sizesOf}
+use Rattle.products.specs.declared.shapes.Shape.{Shape}
 use Rattle.products.specs.Told.{leafBit}
 
 -- the point at the position of the token at `at`
@@ -43,28 +46,23 @@ namedBit origins b i = asBit (eqb (getD origins i 0) b)
 unfoldable pub namedFrom : List ℕ → ℕ → ℕ → ℕ → List ℕ
 namedFrom origins b from n = map (namedBit origins b) (upFrom from n)
 
--- 1 where the cover bin still holds a value from lo to hi
-abbrev pub meetingBit : Table → ℕ → ℕ → CoverBin → ℕ
-meetingBit t lo hi c = asBit (meets t c lo hi)
-
-unfoldable pub meetingBits : Table → ℕ → ℕ → ℕ → List ℕ
-meetingBits t p lo hi = map (meetingBit t lo hi) (covers t p)
-
 -- ---- what an accepted table grants
 
 -- the token's position is one of the cross, its bin is one of the table, its values are values of the point's type
 pub record Legal (s : List ℕ) (c at : ℕ) : Type 0 where
   pub position : byte s (at + 1) < byte s c
   pub bin : byte s at ≡ 1 → u16 s (at + 2) < 65535
-  pub least : byte s at ≡ 2 → lowest (pointAt (tableOf s) (tokenPoint s c at)) ≤ fieldValue (u64 s (at + 4))
-  pub low : byte s at ≡ 2 → fieldValue (u64 s (at + 4)) ≤ 8589934592
-  pub high : byte s at ≡ 2 → fieldValue (u64 s (at + 12)) ≤ 8589934591
+  pub low : byte s at ≡ 2 → inType (pointAt (tableOf s) (tokenPoint s c at)) (fieldValue (u64 s (at + 4))) ≡ true
+  pub high : byte s at ≡ 2 → inType (pointAt (tableOf s) (tokenPoint s c at)) (fieldValue (u64 s (at + 12))) ≡ true
 
 unfoldable pub TokensLegal : List ℕ → ℕ → ℕ → ℕ → Type 0
 TokensLegal s c k n = (j : ℕ) → j < n → Legal s c (k + 20 * j)
 
--- the table is accepted, the cross's points are points of it, and the origins belong to it
-pub record Ready (s : List ℕ) (c : ℕ) (origins : List ℕ) : Type 0 where
+-- the table is accepted, the cross's points are points of it, the shape says how many cover bins each has, and the origins and the plan belong to the table
+pub record Ready (s : List ℕ) (c : ℕ) (x : Shape) (origins plan bounds : List ℕ) : Type 0 where
   pub whole : accepted s ≡ true
   pub points : (i : ℕ) → i < byte s c → byte s (c + 1 + i) < pointTotal (tableOf s)
+  pub few : x .count ≤ 4
+  pub sizes : (i : ℕ) → i < byte s c → getD (sizesOf x) i 1 ≡ length (covers (tableOf s) (byte s (c + 1 + i)))
   pub from : Origins (tableOf s) origins
+  pub planned : ValuesPlan (tableOf s) plan bounds

@@ -1,21 +1,20 @@
 // The truth of a cross bin's tokens for the cover bins of their points: row j, 256 bytes, is that of token j.
+use crate::shapes::Shape;
+use crate::shapes::parts_at;
 use arrays::as_bit;
 use arrays::element;
 use arrays::put_same;
-use covers::put_meets;
+use pieces::plan::Question;
+use pieces::plan::put_meets;
 use values::fields::field;
 use words::bytes::byte;
 use words::bytes::read2;
 ghost use mathlib.Core.Path.{_≡_};
-ghost use mathlib.Core.Bool.{true};
 ghost use Prim.Native.Nat.{_<_, _≤_, _+_, _*_};
 ghost use lib.ListN.{length};
-ghost use Rattle.model.specs.Values.{lowest};
-ghost use Rattle.model.specs.Counters.{pointAt};
-ghost use Rattle.model.specs.Format.{accepted, tableOf};
-ghost use Rattle.model.specs.Register.{pointTotal};
+ghost use Rattle.model.specs.Format.{tableOf};
 ghost use Rattle.arrays.specs.Put.{put};
-ghost use Rattle.products.specs.Tokens.{namedFrom, meetingBits, Ready, Legal, TokensLegal, RowTold, RowsTold, Kept};
+ghost use Rattle.products.specs.Tokens.{namedFrom, Ready, Legal, TokensLegal, RowTold, RowsTold, Kept};
 
 // binsof(point.bin): which of 256 cover bins come of value bin b. Their origins stand from `from` on.
 fn put_named(leaves: &mut [u8], row: usize, origins: &[u16], from: usize, b: u16)
@@ -33,49 +32,81 @@ fn put_named(leaves: &mut [u8], row: usize, origins: &[u16], from: usize, b: u16
     }
 }
 
-// binsof(point) intersect {[lo:hi]}: whether each cover bin of point p still holds a value from lo to hi.
-fn put_meeting(leaves: &mut [u8], row: usize, t: &[u8], p: usize, lo: u64, hi: u64)
-    requires { ⌜ (accepted (now t) ≡ true) × (p < pointTotal (tableOf (now t))) × (row + 256 ≤ length (now leaves)) × (lo ≤ 8589934592) × (hi ≤ 8589934591) ⌝ }
-    requires { ⌜ lowest (pointAt (tableOf (now t)) p) ≤ lo ⌝ }
-    ensures { λ _. ⌜ now (leaves .exit) ≡ put row (meetingBits (tableOf (now (t .entry))) p lo hi) (now (leaves .entry)) ⌝ }
-{
-    let gates = [1u8; 4096];
-    put_meets(leaves, row, t, p, lo, hi, &gates);
+// Where a token's row begins, where its cross's record stands, and where the token does.
+pub struct Token {
+    pub row: usize,
+    pub cross: usize,
+    pub at: usize,
 }
 
-// The row of the token at k, from `row` on. The cross's record stands at c.
-fn put_row(leaves: &mut [u8], row: usize, t: &[u8], origins: &[u16], c: usize, k: usize)
-    requires { ⌜ (row + 256 ≤ length (now leaves)) × (c < 1000000000) × (k < 1000000000) ⌝ }
-    requires { ⌜ Ready (now t) c (now origins) × Legal (now t) c k ⌝ }
-    ensures { λ _. ⌜ RowTold (tableOf (now (t .entry))) (now (t .entry)) c k row (now (leaves .exit)) × Kept row (now (leaves .entry)) (now (leaves .exit)) ⌝ }
+// The row of a token. plan and bounds are the plan of the table's values, s is the cross's shape.
+fn put_row(
+    leaves: &mut [u8],
+    t: &[u8],
+    origins: &[u16],
+    plan: &[u64],
+    bounds: &[u16],
+    k: Token,
+    s: Shape,
+)
+    requires { ⌜ (k .row + 256 ≤ length (now leaves)) × (k .cross < 1000000000) × (k .at < 1000000000) ⌝ }
+    requires { ⌜ Ready (now t) (k .cross) s (now origins) (now plan) (now bounds) × Legal (now t) (k .cross) (k .at) ⌝ }
+    ensures { λ _. ⌜ RowTold (tableOf (now (t .entry))) (now (t .entry)) (k .cross) (k .at) (k .row) (now (leaves .exit)) × Kept (k .row) (now (leaves .entry)) (now (leaves .exit)) ⌝ }
 {
-    let op = byte(t, k);
-    let i = byte(t, k + 1);
-    let p = byte(t, c + 1 + (i as usize)) as usize;
+    let op = byte(t, k.at);
+    let i = byte(t, k.at + 1);
+    let p = byte(t, k.cross + 1 + (i as usize)) as usize;
     if op == 1 {
-        let b = read2(t, k + 2);
-        put_named(leaves, row, origins, 256 * p, b);
+        let b = read2(t, k.at + 2);
+        put_named(leaves, k.row, origins, 256 * p, b);
         return;
     }
     if op == 2 {
-        let lo = field(t, k + 4);
-        let hi = field(t, k + 12);
-        put_meeting(leaves, row, t, p, lo, hi);
+        let lo = field(t, k.at + 4);
+        let hi = field(t, k.at + 12);
+        let parts = parts_at(s, i as usize);
+        let q = Question {
+            point: p,
+            parts: parts,
+            lo: lo,
+            hi: hi,
+        };
+        put_meets(leaves, k.row, t, plan, bounds, q);
         return;
     }
     let v = as_bit(op == 0);
-    put_same(leaves, row, 256, v);
+    put_same(leaves, k.row, 256, v);
 }
 
-// The rows of the n tokens from k on.
-pub fn put_rows(leaves: &mut [u8], t: &[u8], origins: &[u16], c: usize, k: usize, n: usize)
-    requires { ⌜ (8192 ≤ length (now leaves)) × (n ≤ 32) × (c < 1000000000) × (k < 900000000) ⌝ }
-    requires { ⌜ Ready (now t) c (now origins) × TokensLegal (now t) c k n ⌝ }
-    ensures { λ _. ⌜ RowsTold (tableOf (now (t .entry))) (now (t .entry)) c k n (now (leaves .exit)) ⌝ }
+// Where the record of a bin's cross stands, where the bin's tokens begin, and how many they are.
+pub struct Tokens {
+    pub cross: usize,
+    pub at: usize,
+    pub count: usize,
+}
+
+// The rows of a bin's tokens.
+pub fn put_rows(
+    leaves: &mut [u8],
+    t: &[u8],
+    origins: &[u16],
+    plan: &[u64],
+    bounds: &[u16],
+    k: Tokens,
+    s: Shape,
+)
+    requires { ⌜ (8192 ≤ length (now leaves)) × (k .count ≤ 32) × (k .cross < 1000000000) × (k .at < 900000000) ⌝ }
+    requires { ⌜ Ready (now t) (k .cross) s (now origins) (now plan) (now bounds) × TokensLegal (now t) (k .cross) (k .at) (k .count) ⌝ }
+    ensures { λ _. ⌜ RowsTold (tableOf (now (t .entry))) (now (t .entry)) (k .cross) (k .at) (k .count) (now (leaves .exit)) ⌝ }
 {
     let mut j = 0;
-    while j < n {
-        put_row(leaves, 256 * j, t, origins, c, k + 20 * j);
+    while j < k.count {
+        let token = Token {
+            row: 256 * j,
+            cross: k.cross,
+            at: k.at + 20 * j,
+        };
+        put_row(leaves, t, origins, plan, bounds, token, s);
         j += 1;
     }
 }

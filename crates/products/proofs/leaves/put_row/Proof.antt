@@ -1,13 +1,17 @@
 use mathlib.Core.Path.{_≡_, sym, ap, _∙_, subst}
-use Prim.Native.Nat.{ℕ, _+_, _≤_, _<_}
+use mathlib.Core.Bool.{true}
+use Prim.Native.Nat.{ℕ, _+_, _<_}
 use lib.Dec.{eqb}
-use lib.ListN.{getD}
+use native.Mathlib.Omega.{arith}
+use lib.ListN.{length, getD}
 use Rattle.model.specs.Lists.{asBit}
-use Rattle.model.specs.Values.{lowest, fieldValue}
+use Rattle.model.specs.Values.{inType}
 use Rattle.model.specs.Counters.{pointAt}
-use Rattle.model.specs.Format.{byte, u64, tableOf}
+use Rattle.model.specs.Format.{byte, tableOf}
 use Rattle.model.specs.Register.{pointTotal}
-use Rattle.covers.proofs.Accepted.{few-covers}
+use Rattle.pieces.proofs.PlanLaws.{few-covers}
+use Rattle.arrays.specs.Flat.{covers}
+use Rattle.products.specs.Shapes.{sizesOf}
 use Rattle.products.specs.Tokens.{tokenPoint}
 use Rattle.products.proofs.LeafRows.{row-named, row-meets, row-same}
 use borrow.Author.Needs.{needs}
@@ -55,14 +59,14 @@ same-length c = search needs
 
 returns : tie.Need-returns
 returns c =
-    let a = c .before .before .before .before .before .before .before .before .before .before .before .before .args in
+    let a = c .before .before .before .before .before .before .before .before .before .before .before .before .before .before .before .before .before .args in
     let s = a .t .now in
-    let ready = c .before .before .before .before .before .before .before .before .before .before .before .before .pre .1 .0 in
-    let legal = c .before .before .before .before .before .before .before .before .before .before .before .before .pre .1 .1 in
-    let inside = ready .points (byte s (a .k + 1)) (legal .position) in
-    let op : byte s (a .k) ≡ 1 = sym (c .before .before .before .before .before .before .before .before .byte .ensures) ∙ c .before .before .before .before .before .if1 .taken in
-    row-named (tableOf s) s (a .c) (a .k) (a .row) (a .leaves .now) (c .before .before .put-named .last .0) (c .before .before .before .before .before .before .before .before .before .before .before .before .pre .0 .0) (few-covers s (ready .whole) _ inside)
-    (a .origins .now) (c .before .before .before .before .read2 .result) (c .before .before .before .before .before .before .byte3 .result) (c .before .before .before .before .before .before .byte3 .ensures ∙ ap (λ (x : ℕ). getD s (a .c + 1 + x) 0) (c .before .before .before .before .before .before .before .byte2 .ensures)) (c .before .before .before .before .read2 .ensures) op (legal .bin op) inside (ready .from) (c .before .before .put-named .ensures)
+    let ready = c .before .before .before .before .before .before .before .before .before .before .before .before .before .before .before .before .before .pre .1 .0 in
+    let legal = c .before .before .before .before .before .before .before .before .before .before .before .before .before .before .before .before .before .pre .1 .1 in
+    let inside = ready .points (byte s (a .k .at + 1)) (legal .position) in
+    let op : byte s (a .k .at) ≡ 1 = sym (c .before .before .before .before .before .before .before .before .before .before .before .byte .ensures) ∙ c .before .before .before .before .before .before .if1 .taken in
+    row-named (tableOf s) s (a .k .cross) (a .k .at) (a .k .row) (a .leaves .now) (c .before .before .put-named .last .0) (c .before .before .before .before .before .before .before .before .before .before .before .before .before .before .before .before .before .pre .0 .0) (few-covers s (ready .whole) _ inside)
+    (a .origins .now) (c .before .before .before .before .read2 .result) (c .before .before .before .before .before .before .before .byte3 .result) (c .before .before .before .before .before .before .before .byte3 .ensures ∙ ap (λ (x : ℕ). getD s (a .k .cross + 1 + x) 0) (c .before .before .before .before .before .before .before .before .before .byte2 .ensures)) (c .before .before .before .before .read2 .ensures) op (legal .bin op) inside (ready .from) (c .before .before .put-named .ensures)
 
 add-field : tie.Need-add-field
 add-field c = search needs
@@ -76,17 +80,31 @@ add-field-2 c = search needs
 field-requires-2 : tie.Need-field-requires-2
 field-requires-2 c κs = search needs
 
-put-meeting-requires : tie.Need-put-meeting-requires
-put-meeting-requires c κs =
-    let a = c .before .before .before .before .before .before .before .before .before .before .before .args in
+cast-parts-at : tie.Need-cast-parts-at
+cast-parts-at c = search needs
+
+parts-at-requires : tie.Need-parts-at-requires
+parts-at-requires c κs = search needs
+
+put-meets-requires : tie.Need-put-meets-requires
+put-meets-requires c κs =
+    let a = c .before .before .before .before .before .before .before .before .before .before .before .before .before .before .before .before .before .before .args in
+    let pre = c .before .before .before .before .before .before .before .before .before .before .before .before .before .before .before .before .before .before .pre in
     let s = a .t .now in
-    let ready = c .before .before .before .before .before .before .before .before .before .before .before .pre .1 .0 in
-    let legal = c .before .before .before .before .before .before .before .before .before .before .before .pre .1 .1 in
-    let inside = ready .points (byte s (a .k + 1)) (legal .position) in
-    let op : byte s (a .k) ≡ 2 = sym (c .before .before .before .before .before .before .before .byte .ensures) ∙ c .before .before .before .if2 .taken in
-    let ep : c .before .before .before .before .before .byte3 .result ≡ tokenPoint s (a .c) (a .k) = c .before .before .before .before .before .byte3 .ensures ∙ ap (λ (x : ℕ). getD s (a .c + 1 + x) 0) (c .before .before .before .before .before .before .byte2 .ensures) in (
-      (ready .whole, subst (λ (x : ℕ). x < pointTotal (tableOf s)) (sym ep) inside, c .before .before .before .before .before .before .before .before .before .before .before .pre .0 .0, subst (λ (x : ℕ). x ≤ 8589934592) (sym (c .before .before .field .ensures)) (legal .low op), subst (λ (x : ℕ). x ≤ 8589934591) (sym (c .before .field2 .ensures)) (legal .high op)),
-      subst (λ (x : ℕ). lowest (pointAt (tableOf s) (c .before .before .before .before .before .byte3 .result)) ≤ x) (sym (c .before .before .field .ensures)) (subst (λ (x : ℕ). lowest (pointAt (tableOf s) x) ≤ fieldValue (u64 s (a .k + 4))) (sym ep) (legal .least op)),
+    let ready = pre .1 .0 in
+    let legal = pre .1 .1 in
+    let inside = ready .points (byte s (a .k .at + 1)) (legal .position) in
+    let op : byte s (a .k .at) ≡ 2 = sym (c .before .before .before .before .before .before .before .before .before .before .before .before .byte .ensures) ∙ c .before .before .before .before .before .before .if2 .taken in
+    let ei = c .before .before .before .before .before .before .before .before .before .before .byte2 .ensures in
+    let ep : c .before .before .before .before .before .before .before .before .byte3 .result ≡ tokenPoint s (a .k .cross) (a .k .at) = c .before .before .before .before .before .before .before .before .byte3 .ensures ∙ ap (λ (x : ℕ). getD s (a .k .cross + 1 + x) 0) ei in
+    let parts : c .before .parts-at .result ≡ length (covers (tableOf s) (tokenPoint s (a .k .cross) (a .k .at))) = c .before .parts-at .ensures .0 ∙ ap (λ (x : ℕ). getD (sizesOf (a .s)) x 1) ei ∙ ready .sizes (byte s (a .k .at + 1)) (legal .position) in (
+      (ready .whole, subst (λ (x : ℕ). x < pointTotal (tableOf s)) (sym ep) inside, ready .planned),
+      (
+        parts ∙ ap (λ (x : ℕ). length (covers (tableOf s) x)) (sym ep),
+        omega (arith, pre .0 .0, parts, few-covers s (ready .whole) _ inside),
+        subst (λ (x : ℕ). inType (pointAt (tableOf s) x) (c .before .before .before .before .field .result) ≡ true) (sym ep) (subst (λ (x : ℕ). inType (pointAt (tableOf s) (tokenPoint s (a .k .cross) (a .k .at))) x ≡ true) (sym (c .before .before .before .before .field .ensures)) (legal .low op)),
+        subst (λ (x : ℕ). inType (pointAt (tableOf s) x) (c .before .before .field2 .result) ≡ true) (sym ep) (subst (λ (x : ℕ). inType (pointAt (tableOf s) (tokenPoint s (a .k .cross) (a .k .at))) x ≡ true) (sym (c .before .before .field2 .ensures)) (legal .high op)),
+      ),
     )
 
 same-length-2 : tie.Need-same-length-2
@@ -94,11 +112,11 @@ same-length-2 c = search needs
 
 returns-2 : tie.Need-returns-2
 returns-2 c =
-    let a = c .before .before .before .before .before .before .before .before .before .before .before .before .before .before .args in
+    let a = c .before .before .before .before .before .before .before .before .before .before .before .before .before .before .before .before .before .before .before .before .before .args in
     let s = a .t .now in
-    let op : byte s (a .k) ≡ 2 = sym (c .before .before .before .before .before .before .before .before .before .before .byte .ensures) ∙ c .before .before .before .before .before .before .if2 .taken in
-    row-meets (tableOf s) s (a .c) (a .k) (a .row) (a .leaves .now) (c .before .before .put-meeting .last .0) (c .before .before .before .before .before .before .before .before .before .before .before .before .before .before .pre .0 .0)
-    (c .before .before .before .before .before .field .result) (c .before .before .before .before .field2 .result) (c .before .before .before .before .before .before .before .before .byte3 .result) (c .before .before .before .before .before .before .before .before .byte3 .ensures ∙ ap (λ (x : ℕ). getD s (a .c + 1 + x) 0) (c .before .before .before .before .before .before .before .before .before .byte2 .ensures)) (c .before .before .before .before .before .field .ensures) (c .before .before .before .before .field2 .ensures) op (c .before .before .put-meeting .ensures)
+    let op : byte s (a .k .at) ≡ 2 = sym (c .before .before .before .before .before .before .before .before .before .before .before .before .before .before .before .byte .ensures) ∙ c .before .before .before .before .before .before .before .before .before .if2 .taken in
+    row-meets (tableOf s) s (a .k .cross) (a .k .at) (a .k .row) (a .leaves .now) (c .before .before .put-meets .last .0) (c .before .before .before .before .before .before .before .before .before .before .before .before .before .before .before .before .before .before .before .before .before .pre .0 .0)
+    (c .before .before .before .before .before .before .before .field .result) (c .before .before .before .before .before .field2 .result) (c .before .before .before .before .before .before .before .before .before .before .before .byte3 .result) (c .before .before .before .before .before .before .before .before .before .before .before .byte3 .ensures ∙ ap (λ (x : ℕ). getD s (a .k .cross + 1 + x) 0) (c .before .before .before .before .before .before .before .before .before .before .before .before .before .byte2 .ensures)) (c .before .before .before .before .before .before .before .field .ensures) (c .before .before .before .before .before .field2 .ensures) op (c .before .before .put-meets .ensures)
 
 as-bit-requires : tie.Need-as-bit-requires
 as-bit-requires c κs = search needs
@@ -111,13 +129,13 @@ same-length-3 c = search needs
 
 returns-3 : tie.Need-returns-3
 returns-3 c =
-    let a = c .before .before .before .before .before .before .before .before .before .before .before .before .before .args in
+    let a = c .before .before .before .before .before .before .before .before .before .before .before .before .before .before .before .before .before .args in
     let s = a .t .now in
-    let ready = c .before .before .before .before .before .before .before .before .before .before .before .before .before .pre .1 .0 in
-    let legal = c .before .before .before .before .before .before .before .before .before .before .before .before .before .pre .1 .1 in
-    let inside = ready .points (byte s (a .k + 1)) (legal .position) in
-    row-same (tableOf s) s (a .c) (a .k) (a .row) (a .leaves .now) (c .before .before .put-same .last .0) (c .before .before .before .before .before .before .before .before .before .before .before .before .before .pre .0 .0) (few-covers s (ready .whole) _ inside)
-    (c .before .before .before .before .as-bit .result) (c .before .before .before .before .as-bit .ensures ∙ ap (λ (x : ℕ). asBit (eqb x 0)) (c .before .before .before .before .before .before .before .before .before .byte .ensures)) (λ e. c .before .before .before .before .before .before .if1 .left (c .before .before .before .before .before .before .before .before .before .byte .ensures ∙ e)) (λ e. c .before .before .before .before .before .if2 .left (c .before .before .before .before .before .before .before .before .before .byte .ensures ∙ e)) (c .before .before .put-same .ensures .1)
+    let ready = c .before .before .before .before .before .before .before .before .before .before .before .before .before .before .before .before .before .pre .1 .0 in
+    let legal = c .before .before .before .before .before .before .before .before .before .before .before .before .before .before .before .before .before .pre .1 .1 in
+    let inside = ready .points (byte s (a .k .at + 1)) (legal .position) in
+    row-same (tableOf s) s (a .k .cross) (a .k .at) (a .k .row) (a .leaves .now) (c .before .before .put-same .last .0) (c .before .before .before .before .before .before .before .before .before .before .before .before .before .before .before .before .before .pre .0 .0) (few-covers s (ready .whole) _ inside)
+    (c .before .before .before .before .as-bit .result) (c .before .before .before .before .as-bit .ensures ∙ ap (λ (x : ℕ). asBit (eqb x 0)) (c .before .before .before .before .before .before .before .before .before .before .before .byte .ensures)) (λ e. c .before .before .before .before .before .before .if1 .left (c .before .before .before .before .before .before .before .before .before .before .before .byte .ensures ∙ e)) (λ e. c .before .before .before .before .before .if2 .left (c .before .before .before .before .before .before .before .before .before .before .before .byte .ensures ∙ e)) (c .before .before .put-same .ensures .1)
 
 pub put-row-spec : {M : Type 1} → statement M
 put-row-spec =
@@ -141,7 +159,9 @@ put-row-spec =
     field-requires
     add-field-2
     field-requires-2
-    put-meeting-requires
+    cast-parts-at
+    parts-at-requires
+    put-meets-requires
     same-length-2
     returns-2
     as-bit-requires

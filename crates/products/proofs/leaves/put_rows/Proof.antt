@@ -2,7 +2,7 @@ use mathlib.Core.Path.{_≡_, refl, _∙_}
 use Prim.Native.Nat.{_+_, _*_, _-_, _≤_}
 use lib.ListN.{length}
 use Rattle.model.specs.Format.{byte, tableOf}
-use Rattle.covers.proofs.Accepted.{few-covers}
+use Rattle.pieces.proofs.PlanLaws.{few-covers}
 use Rattle.products.specs.Tokens.{RowsTold, TokensLegal}
 use Rattle.products.proofs.LeafRows.{no-rows, rows-more}
 use native.Mathlib.Omega.{arith}
@@ -10,30 +10,30 @@ use Rattle.products.proofs.leaves.put_rows.Statement.{statement}
 use Rattle.products.proofs.leaves.put_rows.Tie as tie
 
 abbrev Inv-loop : tie.InvT-loop
-Inv-loop leaves₀ t origins c k n j₀ leaves j = (j ≤ n) × (length leaves ≡ length leaves₀) × RowsTold (tableOf t) t c k j leaves
+Inv-loop leaves₀ t origins plan bounds k s j₀ leaves j = (j ≤ k .count) × (length leaves ≡ length leaves₀) × RowsTold (tableOf t) t (k .cross) (k .at) j leaves
 
 abbrev μ-loop : tie.MeasureT-loop
-μ-loop leaves₀ t origins c k n j₀ leaves j = n - j
+μ-loop leaves₀ t origins plan bounds k s j₀ leaves j = k .count - j
 
 loop-holds : tie.Need-loop-holds Inv-loop μ-loop
 loop-holds c =
-    let a = c .before .before .before .args in
-    (omega arith, refl, no-rows (tableOf (a .t .now)) (a .t .now) (a .c) (a .k) (a .leaves .now))
+    let a = c .before .before .before .before .before .args in
+    (omega arith, refl, no-rows (tableOf (a .t .now)) (a .t .now) (a .k .cross) (a .k .at) (a .leaves .now))
 
-mul-put-row : tie.Need-mul-put-row Inv-loop μ-loop
-mul-put-row c = omega arith
+mul-t11 : tie.Need-mul-t11 Inv-loop μ-loop
+mul-t11 c = omega arith
 
-mul-put-row-2 : tie.Need-mul-put-row-2 Inv-loop μ-loop
-mul-put-row-2 c = omega arith
+mul-t12 : tie.Need-mul-t12 Inv-loop μ-loop
+mul-t12 c = omega arith
 
-add-put-row : tie.Need-add-put-row Inv-loop μ-loop
-add-put-row c = omega arith
+add-t13 : tie.Need-add-t13 Inv-loop μ-loop
+add-t13 c = omega arith
 
 put-row-requires : tie.Need-put-row-requires Inv-loop μ-loop
 unfolding TokensLegal
 put-row-requires c κs =
-    let l = c .before .before .loop in
-    let pre = c .before .before .before .before .before .before .pre in
+    let l = c .before .before .before .before .loop in
+    let pre = c .before .before .before .before .before .before .before .before .before .before .pre in
     ((omega arith, omega arith, omega arith), (pre .1 .0, pre .1 .1 (l .j) (omega arith)))
 
 add-j : tie.Need-add-j Inv-loop μ-loop
@@ -45,24 +45,24 @@ loop-less c = omega arith
 loop-again : tie.Need-loop-again Inv-loop μ-loop
 unfolding TokensLegal
 loop-again c =
-    let a = c .before .before .before .before .before .before .before .before .before .args in
+    let a = c .before .before .before .before .before .before .before .before .before .before .before .before .before .args in
     let s = a .t .now in
-    let l = c .before .before .before .before .before .loop in
-    let pre = c .before .before .before .before .before .before .before .before .before .pre in (
+    let l = c .before .before .before .before .before .before .before .loop in
+    let pre = c .before .before .before .before .before .before .before .before .before .before .before .before .before .pre in (
       omega arith,
       c .before .before .put-row .kept .0 ∙ l .inv .1,
-      rows-more (tableOf s) s (a .c) (a .k) (l .j) (λ j h. few-covers s (pre .1 .0 .whole) _ (pre .1 .0 .points (byte s (a .k + 20 * j + 1)) (pre .1 .1 j (omega arith) .position)))
+      rows-more (tableOf s) s (a .k .cross) (a .k .at) (l .j) (λ j h. few-covers s (pre .1 .0 .whole) _ (pre .1 .0 .points (byte s (a .k .at + 20 * j + 1)) (pre .1 .1 j (omega arith) .position)))
           (l .leaves) (c .before .before .put-row .last .0) (l .inv .2) (c .before .before .put-row .ensures .0) (c .before .before .put-row .ensures .1),
     )
 
 same-length : tie.Need-same-length Inv-loop μ-loop
-same-length c = c .before .loop .inv .1
+same-length c = c .before .before .loop .inv .1
 
 returns : tie.Need-returns Inv-loop μ-loop
 returns c =
-    let a = c .before .before .before .before .before .args in
-    let l = c .before .loop in
-    let z : l .j ≡ a .n = omega arith in
+    let a = c .before .before .before .before .before .before .before .before .args in
+    let l = c .before .before .loop in
+    let z : l .j ≡ a .k .count = omega arith in
     rw z at (l .inv .2)
 
 pub put-rows-spec : {M : Type 1} → statement M
@@ -72,9 +72,9 @@ put-rows-spec =
     Inv-loop
     μ-loop
     loop-holds
-    mul-put-row
-    mul-put-row-2
-    add-put-row
+    mul-t11
+    mul-t12
+    add-t13
     put-row-requires
     add-j
     loop-less
