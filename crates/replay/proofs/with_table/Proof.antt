@@ -2,6 +2,7 @@ use mathlib.Core.Path.{sym}
 use native.Mathlib.Omega.{arith}
 use lib.Seq.{length-take-le}
 use borrow.Author.Needs.{needs}
+use Rattle.sampling.proofs.Joins.{largest-room}
 use Rattle.replay.proofs.with_table.Statement.{statement}
 use Rattle.replay.proofs.with_table.Tie as tie
 
@@ -9,7 +10,7 @@ slice-aggregate-put-kinds : tie.Need-slice-aggregate-put-kinds
 slice-aggregate-put-kinds c = search needs
 
 put-kinds-requires : tie.Need-put-kinds-requires
-put-kinds-requires c κs = search needs
+put-kinds-requires c κs = let b = c .before .before .before .before .before .before .before in (b .pre .0, largest-room (b .args .table .now) (b .pre .0))
 
 open-read-requires : tie.Need-open-read-requires
 open-read-requires c κs = search needs
