@@ -1,6 +1,6 @@
 -- Where the marks of each cross begin, how many there are, and what stands there.
 -- Assumes nothing.
-use mathlib.Core.Path.{_≡_, refl, sym, ap, _∙_, subst}
+use mathlib.Core.Path.{_≡_, refl, sym, ap, ap₂, _∙_, subst}
 use mathlib.Core.Bool.{Bool, true, false}
 use mathlib.Core.List.{List, _++_}
 use Prim.Native.Nat.{ℕ, zero, suc, _+_, _*_, _-_, _≤_, _<_}
@@ -10,7 +10,7 @@ use lib.Dec.{leb, ltb}
 use lib.ListN.{length, take, drop, length-append, length-drop, take-append-drop}
 use lib.Seq.{length-take-le, take-append-le, drop-append-le, drop-at, take-take}
 use borrow.Author.Tests.{leb-true, ltb-true, ltb-false}
-use borrow.Rule.Slice.PartMut.{putMid, mid-len, same-len-mid}
+use borrow.Rule.Slice.PartMut.{putMid, mid-len}
 use Rattle.model.specs.Lists.{upFrom, all, concatOf}
 use Rattle.model.specs.Table.{Table}
 use Rattle.model.specs.Counters.{crossCounters, pointCounters, productCount, withinLimits}
@@ -33,18 +33,17 @@ front-same a k p y z h = front y ∙ sym (front z)
     front : (x : List ℕ) → take k (drop a (p ++ x)) ≡ take k (drop a p)
     front x = ap (take k) (drop-append-le a p x (omega arith)) ∙ take-append-le k (drop a p) x (omega (arith, length-drop a p))
 
-module _ (at : ℕ) (xs ys : List ℕ) (fit : at ≤ length xs) (e : length ys ≡ length (take (length xs - at) (drop at xs))) where
-  -- what stands before a part that was lent
-  part-before : (a k : ℕ) → a + k ≤ at → take k (drop a (putMid at (length xs - at) xs ys)) ≡ take k (drop a xs)
-  part-before a k h =
-      let rest = drop (length xs - at) (drop at xs) in
-      front-same a k (take at xs) (ys ++ rest) (drop at xs) (omega (arith, length-take-le at xs fit)) ∙ ap (λ (l : List ℕ). take k (drop a l)) (take-append-drop at xs)
+-- a part of k elements was lent: what stands before it, and in it
+module _ (at k : ℕ) (xs ys : List ℕ) (fit : at ≤ length xs) where
+  part-before : (a n : ℕ) → a + n ≤ at → take n (drop a (putMid at k xs ys)) ≡ take n (drop a xs)
+  part-before a n h =
+      front-same a n (take at xs) (ys ++ drop k (drop at xs)) (drop at xs) (omega (arith, length-take-le at xs fit))
+      ∙ ap (λ (l : List ℕ). take n (drop a l)) (take-append-drop at xs)
 
-  -- what stands in it
-  part-in : (k : ℕ) → k ≤ length ys → take k (drop at (putMid at (length xs - at) xs ys)) ≡ take k ys
-  part-in k h =
-      let rest = drop (length xs - at) (drop at xs) in
-      ap (take k) (drop-at (take at xs) (ys ++ rest) at (length-take-le at xs fit)) ∙ take-append-le k ys rest h
+  part-in : (n : ℕ) → n ≤ length ys → take n (drop at (putMid at k xs ys)) ≡ take n ys
+  part-in n h =
+      let rest = drop k (drop at xs) in
+      ap (take n) (drop-at (take at xs) (ys ++ rest) at (length-take-le at xs fit)) ∙ take-append-le n ys rest h
 
 -- ---- where the marks begin
 
@@ -84,7 +83,7 @@ module _ (t : Table) where
       let z : 0 + n ≡ n = omega arith in
       subst (λ (x : ℕ). markStart t x ≤ length (concatOf (crossCounters t) (upFrom 0 n))) z (omega (arith, starts-few n 0))
 
-  -- ---- the crosses one after the other
+  -- ---- cross after cross
 
   -- the array has the marks of the first n crosses
   abbrev pub MarkedTo : ℕ → List ℕ → Type 0
@@ -97,46 +96,52 @@ module _ (t : Table) where
   unfolding Marked
   marked-all n marks h m c k = m c (omega arith)
 
-  module _ (n c at size : ℕ) (xs : List ℕ) (en : n ≡ length (t .crosses)) (h : c < n) (ea : at ≡ markStart t c) (es : size ≡ productCount t c) (room : markTotal t ≤ length xs) where
-    pub marks-room : at + size ≤ length xs
-    marks-room = omega (arith, start-before (length (t .crosses)) c (omega arith))
+-- the marks of cross c begin at `at`, and there are as many as `size` says
+pub record Here (t : Table) (c at size : ℕ) : Type 0 where
+  pub inside : c < length (t .crosses)
+  pub start : at ≡ markStart t c
+  pub many : size ≡ productCount t c
 
-    pub part-long : length (take (length xs - at) (drop at xs)) ≡ length xs - at
-    part-long = mid-len at (length xs) xs (omega arith)
+module _ (t : Table) (c at size : ℕ) (here : Here t c at size) where
+  pub at-next : at + size ≡ markStart t (c + 1)
+  at-next = omega (arith, start-next t c, here .start, here .many)
+
+  pub marks-end : at + size ≤ markTotal t
+  marks-end = omega (arith, start-before t (length (t .crosses)) c (here .inside), here .start, here .many)
+
+  module _ (xs : List ℕ) (room : markTotal t ≤ length xs) where
+    pub marks-room : at + size ≤ length xs
+    marks-room = omega (arith, marks-end)
 
     pub part-room : size ≤ length (take (length xs - at) (drop at xs))
-    part-room = omega (arith, part-long, marks-room)
+    part-room = omega (arith, mid-len at (length xs) xs (omega arith), marks-room)
 
-    pub at-next : at + size ≡ markStart t (c + 1)
-    at-next = omega (arith, start-next c)
-
-    -- the marks of the cross, from where they begin
+    -- they stand in the part that begins there
     pub marks-at : Marked t xs → take size (take (length xs - at) (drop at xs)) ≡ crossMarks t c
     unfolding Marked
     marks-at m =
         take-take size (length xs - at) (drop at xs) (omega (arith, marks-room))
-        ∙ ap (λ (k : ℕ). take k (drop at xs)) es
-        ∙ ap (λ (k : ℕ). take (productCount t c) (drop k xs)) ea
-        ∙ m c (omega arith)
+        ∙ ap₂ (λ (k a : ℕ). take k (drop a xs)) (here .many) (here .start)
+        ∙ m c (here .inside)
 
-    -- they were written
-    module _ (ys : List ℕ) (e : length ys ≡ length (take (length xs - at) (drop at xs))) where
-      pub part-kept : length (putMid at (length xs - at) xs ys) ≡ length xs
-      part-kept = same-len-mid at (length xs - at) xs ys e
+    -- they were written to that part
+    pub marked-turn : (ys : List ℕ) → length ys ≡ length (take (length xs - at) (drop at xs)) → MarkedTo t c xs → take size ys ≡ crossMarks t c
+        → MarkedTo t (c + 1) (putMid at (length xs - at) xs ys)
+    marked-turn ys e m w d k = go (ltb d c) refl
+      where
+        fit : at ≤ length xs
+        fit = omega (arith, marks-room)
 
-      pub marked-turn : MarkedTo c xs → take size ys ≡ crossMarks t c → MarkedTo (c + 1) (putMid at (length xs - at) xs ys)
-      marked-turn m w d k = go (ltb d c) refl
-        where
-          go : (b : Bool) → ltb d c ≡ b → take (productCount t d) (drop (markStart t d) (putMid at (length xs - at) xs ys)) ≡ crossMarks t d
-          go true q =
-              let j = ltb-true d c q in
-              part-before at xs ys (omega (arith, marks-room)) e (markStart t d) (productCount t d) (omega (arith, start-before c d j)) ∙ m d j
-          go false q =
-              let z : c ≡ d = omega (arith, ltb-false d c q) in
-              subst (λ (x : ℕ). take (productCount t x) (drop (markStart t x) (putMid at (length xs - at) xs ys)) ≡ crossMarks t x) z
-              (ap (λ (x : ℕ). take (productCount t c) (drop x (putMid at (length xs - at) xs ys))) (sym ea)
-              ∙ ap (λ (x : ℕ). take x (drop at (putMid at (length xs - at) xs ys))) (sym es)
-              ∙ part-in at xs ys (omega (arith, marks-room)) e size (omega (arith, part-room)) ∙ w)
+        go : (b : Bool) → ltb d c ≡ b → take (productCount t d) (drop (markStart t d) (putMid at (length xs - at) xs ys)) ≡ crossMarks t d
+        go true q =
+            let j = ltb-true d c q in
+            part-before at (length xs - at) xs ys fit (markStart t d) (productCount t d) (omega (arith, start-before t c d j, here .start)) ∙ m d j
+        go false q =
+            let z : d ≡ c = omega (arith, ltb-false d c q) in
+            ap₂ (λ (n a : ℕ). take n (drop a (putMid at (length xs - at) xs ys))) (ap (productCount t) z ∙ sym (here .many)) (ap (markStart t) z ∙ sym (here .start))
+            ∙ part-in at (length xs - at) xs ys fit size (omega (arith, part-room))
+            ∙ w
+            ∙ ap (crossMarks t) (sym z)
 
 -- ---- an accepted table
 
@@ -160,5 +165,5 @@ module _ (s : List ℕ) (ok : accepted s ≡ true) where
   pub marks-few : markTotal (tableOf s) ≤ 8192
   marks-few = omega (arith, start-few (length (T .crosses)) (omega arith), few-crosses s ok)
 
-  pub mark-small : (n c at size : ℕ) → n ≡ length (tableOf s .crosses) → c < n → at ≡ markStart (tableOf s) c → size ≡ productCount (tableOf s) c → at + size ≤ 8192
-  mark-small n c at size en h ea es = omega (arith, start-before T (length (T .crosses)) c (omega arith), marks-few)
+  pub marks-small : (c at size : ℕ) → Here (tableOf s) c at size → at + size ≤ 8192
+  marks-small c at size here = omega (arith, marks-end T c at size here, marks-few)

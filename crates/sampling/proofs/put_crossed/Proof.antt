@@ -1,7 +1,5 @@
 use borrow.Author.Needs.{needs}
 use native.Mathlib.Omega.{arith}
-use lib.ListN.{length-replicate}
-use Prim.Native.Nat.{ℕ}
 use Rattle.crosses.proofs.MarkLaws.{marks-few}
 use Rattle.sampling.proofs.Joins.{counts-stand}
 use Rattle.sampling.proofs.put_crossed.Statement.{statement}
@@ -31,7 +29,7 @@ mark-all-requires c κs =
     let k = c .before .before .before .before .before .put-origins in
     let s = b .args .t .now in
     let told = counts-stand s _ (k .last .1 .0) (b .pre .0) (k .ensures .2) (omega arith) in
-    (b .pre .0, told, k .ensures .0, omega (arith, marks-few s (b .pre .0), length-replicate {A = ℕ} 8192 0))
+    (b .pre .0, told, k .ensures .0, omega (arith, marks-few s (b .pre .0)))
 
 slice-aggregate-put-crosses : tie.Need-slice-aggregate-put-crosses
 slice-aggregate-put-crosses c = search needs
@@ -46,7 +44,7 @@ put-crosses-requires c κs =
     let s = b .args .t .now in
     let told = counts-stand s _ (k .last .1 .0) (b .pre .0) (k .ensures .2) (omega arith) in
     let m = c .before .before .before .before .mark-all in
-    ((b .pre .0, told, m .ensures), (omega (arith, marks-few s (b .pre .0), m .kept .0, length-replicate {A = ℕ} 8192 0), b .pre .1))
+    ((b .pre .0, told, m .ensures), (omega (arith, marks-few s (b .pre .0), m .kept .0), b .pre .1))
 
 same-length : tie.Need-same-length
 same-length c = search needs

@@ -19,7 +19,7 @@ use Rattle.crosses.specs.Marked.{markStart}
 use Rattle.crosses.proofs.Places.{nth-stands, count-crosses}
 use Rattle.crosses.proofs.FlagsExact.{length-flags, flags-exact}
 use Rattle.crosses.proofs.Walks.{countersFrom, from-start, from-length, from-end, flags-turn, flags-end}
-use Rattle.crosses.proofs.MarkLaws.{start-none, marks-room, part-room, at-next, marks-at, mark-small}
+use Rattle.crosses.proofs.MarkLaws.{Here, start-none, marks-room, part-room, at-next, marks-at, marks-small}
 use borrow.Author.Needs.{needs}
 use Rattle.crosses.proofs.all.put_crosses.Statement.{statement}
 use Rattle.crosses.proofs.all.put_crosses.Tie as tie
@@ -66,11 +66,9 @@ shape-of-requires c κs =
     let a = c .before .before .before .before .before .before .before .before .before .before .args in
     let pre = c .before .before .before .before .before .before .before .before .before .before .pre in
     let s = a .t .now in
-    let t = tableOf s in
     let l = c .before .loop in
     let i = l .inv in
     let h = c .loop-test .taken in
-    let n = c .before .before .before .layout-of .result .«cross_count» in
     let stands = nth-stands s (pre .0 .0) (l .c) (l .p) (omega (arith, h, i .1)) (i .2) in
     (stands, pre .0 .1)
 
@@ -82,15 +80,11 @@ put-hits-requires c κs =
     let a = c .before .before .before .before .before .before .before .before .before .before .before .before .args in
     let pre = c .before .before .before .before .before .before .before .before .before .before .before .before .pre in
     let s = a .t .now in
-    let t = tableOf s in
     let l = c .before .before .before .loop in
     let i = l .inv in
     let h = c .before .before .loop-test .taken in
-    let n = c .before .before .before .before .before .layout-of .result .«cross_count» in
     let stands = nth-stands s (pre .0 .0) (l .c) (l .p) (omega (arith, h, i .1)) (i .2) in
     let fits = c .before .shape-of .ensures in
-    let size = c .before .shape-of .result .total in
-    let many = fits .products ∙ ap (productCount t) (i .2 .number) in
     (stands, fits, omega (arith, i .4))
 
 slice-aggregate-put-cross : tie.Need-slice-aggregate-put-cross Inv-loop μ-loop
@@ -105,12 +99,10 @@ mul-put-cross c =
     let l = c .before .before .before .before .before .before .before .loop in
     let i = l .inv in
     let h = c .before .before .before .before .before .before .loop-test .taken in
-    let n = c .before .before .before .before .before .before .before .before .before .layout-of .result .«cross_count» in
-    let stands = nth-stands s (pre .0 .0) (l .c) (l .p) (omega (arith, h, i .1)) (i .2) in
     let fits = c .before .before .before .before .before .shape-of .ensures in
     let size = c .before .before .before .before .before .shape-of .result .total in
-    let many = fits .products ∙ ap (productCount t) (i .2 .number) in
-    omega (arith, mark-small s (pre .0 .0) n (l .c) (l .base) size (i .1) h (i .5) many)
+    let here : Here t (l .c) (l .base) size = record { inside = omega (arith, h, i .1); start = i .5; many = fits .products ∙ ap (productCount t) (i .2 .number) } in
+    omega (arith, marks-small s (pre .0 .0) (l .c) (l .base) size here)
 
 sub-put-cross : tie.Need-sub-put-cross Inv-loop μ-loop
 sub-put-cross c =
@@ -121,12 +113,10 @@ sub-put-cross c =
     let l = c .before .before .before .before .before .before .before .loop in
     let i = l .inv in
     let h = c .before .before .before .before .before .before .loop-test .taken in
-    let n = c .before .before .before .before .before .before .before .before .before .layout-of .result .«cross_count» in
-    let stands = nth-stands s (pre .0 .0) (l .c) (l .p) (omega (arith, h, i .1)) (i .2) in
     let fits = c .before .before .before .before .before .shape-of .ensures in
     let size = c .before .before .before .before .before .shape-of .result .total in
-    let many = fits .products ∙ ap (productCount t) (i .2 .number) in
-    omega (arith, marks-room t n (l .c) (l .base) size (a .marks .now) (i .1) h (i .5) many (pre .1 .0))
+    let here : Here t (l .c) (l .base) size = record { inside = omega (arith, h, i .1); start = i .5; many = fits .products ∙ ap (productCount t) (i .2 .number) } in
+    omega (arith, marks-room t (l .c) (l .base) size here (a .marks .now) (pre .1 .0))
 
 part-put-cross-start : tie.Need-part-put-cross-start Inv-loop μ-loop
 part-put-cross-start c =
@@ -137,12 +127,10 @@ part-put-cross-start c =
     let l = c .before .before .before .before .before .before .before .loop in
     let i = l .inv in
     let h = c .before .before .before .before .before .before .loop-test .taken in
-    let n = c .before .before .before .before .before .before .before .before .before .layout-of .result .«cross_count» in
-    let stands = nth-stands s (pre .0 .0) (l .c) (l .p) (omega (arith, h, i .1)) (i .2) in
     let fits = c .before .before .before .before .before .shape-of .ensures in
     let size = c .before .before .before .before .before .shape-of .result .total in
-    let many = fits .products ∙ ap (productCount t) (i .2 .number) in
-    omega (arith, marks-room t n (l .c) (l .base) size (a .marks .now) (i .1) h (i .5) many (pre .1 .0))
+    let here : Here t (l .c) (l .base) size = record { inside = omega (arith, h, i .1); start = i .5; many = fits .products ∙ ap (productCount t) (i .2 .number) } in
+    omega (arith, marks-room t (l .c) (l .base) size here (a .marks .now) (pre .1 .0))
 
 part-put-cross-end : tie.Need-part-put-cross-end Inv-loop μ-loop
 part-put-cross-end c = omega arith
@@ -160,11 +148,11 @@ put-cross-requires c κs =
     let stands = nth-stands s (pre .0 .0) (l .c) (l .p) (omega (arith, h, i .1)) (i .2) in
     let fits = c .before .before .before .before .before .before .shape-of .ensures in
     let size = c .before .before .before .before .before .before .shape-of .result .total in
-    let many = fits .products ∙ ap (productCount t) (i .2 .number) in
+    let here : Here t (l .c) (l .base) size = record { inside = omega (arith, h, i .1); start = i .5; many = fits .products ∙ ap (productCount t) (i .2 .number) } in
     let hits = c .before .before .before .before .put-hits in
     let marks = take (length (a .marks .now) - l .base) (drop (l .base) (a .marks .now)) in
     let hits-fit : size ≤ length (hits .last .0) = omega (arith, fits .whole .small, hits .kept .0, i .4) in
-    let marks-fit : size ≤ length marks = part-room t n (l .c) (l .base) size (a .marks .now) (i .1) h (i .5) many (pre .1 .0) in
+    let marks-fit : size ≤ length marks = part-room t (l .c) (l .base) size here (a .marks .now) (pre .1 .0) in
     let long = length-flags s (l .p) stands (a .sample .now) (a .ask .total) (take size (hits .last .0)) (take size marks) (length-take-le size (hits .last .0) hits-fit ∙ fits .products) (length-take-le size marks marks-fit ∙ fits .products) in
     let same = ap (λ (x : ℕ). length (crossCounters t x)) (i .2 .number) in
     let good = cross-placed s (l .p) stands in
@@ -179,23 +167,19 @@ add-base c =
     let l = c .before .before .before .before .before .before .before .before .before .before .before .before .loop in
     let i = l .inv in
     let h = c .before .before .before .before .before .before .before .before .before .before .before .loop-test .taken in
-    let n = c .before .before .before .before .before .before .before .before .before .before .before .before .before .before .layout-of .result .«cross_count» in
-    let stands = nth-stands s (pre .0 .0) (l .c) (l .p) (omega (arith, h, i .1)) (i .2) in
     let fits = c .before .before .before .before .before .before .before .before .before .before .shape-of .ensures in
     let size = c .before .before .before .before .before .before .before .before .before .before .shape-of .result .total in
-    let many = fits .products ∙ ap (productCount t) (i .2 .number) in
-    omega (arith, mark-small s (pre .0 .0) n (l .c) (l .base) size (i .1) h (i .5) many)
+    let here : Here t (l .c) (l .base) size = record { inside = omega (arith, h, i .1); start = i .5; many = fits .products ∙ ap (productCount t) (i .2 .number) } in
+    omega (arith, marks-small s (pre .0 .0) (l .c) (l .base) size here)
 
 next-place-requires : tie.Need-next-place-requires Inv-loop μ-loop
 next-place-requires c κs =
     let a = c .before .before .before .before .before .before .before .before .before .before .before .before .before .before .before .before .before .before .before .before .before .args in
     let pre = c .before .before .before .before .before .before .before .before .before .before .before .before .before .before .before .before .before .before .before .before .before .pre in
     let s = a .t .now in
-    let t = tableOf s in
     let l = c .before .before .before .before .before .before .before .before .before .before .before .before .loop in
     let i = l .inv in
     let h = c .before .before .before .before .before .before .before .before .before .before .before .loop-test .taken in
-    let n = c .before .before .before .before .before .before .before .before .before .before .before .before .before .before .layout-of .result .«cross_count» in
     let stands = nth-stands s (pre .0 .0) (l .c) (l .p) (omega (arith, h, i .1)) (i .2) in
     stands
 
@@ -218,11 +202,11 @@ loop-again c =
     let stands = nth-stands s (pre .0 .0) (l .c) (l .p) (omega (arith, h, i .1)) (i .2) in
     let fits = c .before .before .before .before .before .before .before .before .before .before .before .shape-of .ensures in
     let size = c .before .before .before .before .before .before .before .before .before .before .before .shape-of .result .total in
-    let many = fits .products ∙ ap (productCount t) (i .2 .number) in
+    let here : Here t (l .c) (l .base) size = record { inside = omega (arith, h, i .1); start = i .5; many = fits .products ∙ ap (productCount t) (i .2 .number) } in
     let hits = c .before .before .before .before .before .before .before .before .before .put-hits in
     let marks = take (length (a .marks .now) - l .base) (drop (l .base) (a .marks .now)) in
     let hits-fit : size ≤ length (hits .last .0) = omega (arith, fits .whole .small, hits .kept .0, i .4) in
-    let marks-fit : size ≤ length marks = part-room t n (l .c) (l .base) size (a .marks .now) (i .1) h (i .5) many (pre .1 .0) in
+    let marks-fit : size ≤ length marks = part-room t (l .c) (l .base) size here (a .marks .now) (pre .1 .0) in
     let long = length-flags s (l .p) stands (a .sample .now) (a .ask .total) (take size (hits .last .0)) (take size marks) (length-take-le size (hits .last .0) hits-fit ∙ fits .products) (length-take-le size marks marks-fit ∙ fits .products) in
     let same = ap (λ (x : ℕ). length (crossCounters t x)) (i .2 .number) in
     let q = c .before .before .before .before .put-cross in
@@ -234,13 +218,13 @@ loop-again c =
       subst (λ (x : ℕ). Nth s (x + 1) (c .next-place .result)) (i .2 .number) (c .next-place .ensures),
       q .kept .0 ∙ i .3,
       hits .kept .0 ∙ i .4,
-      at-next t n (l .c) (l .base) size (a .marks .now) (i .1) h (i .5) many (pre .1 .0),
+      at-next t (l .c) (l .base) size here,
       omega (arith, from-length t n (l .c) h, i .6, end),
       λ m x.
           flags-turn t n (l .c) (l .at) (q .result) (l .flags) (q .last .0) h (omega (arith, i .3, i .6, pre .1 .1)) end total w m
           (q .ensures .1
           ∙ ap (λ (ys : List ℕ). put (l .at) ys (l .flags))
-          (ap₂ (crossFlags s w total (l .p .cross) (l .p .bins)) (hits .ensures (gateOf total t w) x) (marks-at t n (l .c) (l .base) size (a .marks .now) (i .1) h (i .5) many (pre .1 .0) (pre .0 .2) ∙ ap (crossMarks t) (sym (i .2 .number)))
+          (ap₂ (crossFlags s w total (l .p .cross) (l .p .bins)) (hits .ensures (gateOf total t w) x) (marks-at t (l .c) (l .base) size here (a .marks .now) (pre .1 .0) (pre .0 .2) ∙ ap (crossMarks t) (sym (i .2 .number)))
           ∙ sym (flags-exact s (l .p) stands w total m) ∙ ap (λ (y : ℕ). flagsOf total t w m (crossCounters t y)) (i .2 .number)))
           ∙ i .7 m x,
     )

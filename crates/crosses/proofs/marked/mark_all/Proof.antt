@@ -9,8 +9,8 @@ use Rattle.products.specs.Marks.{crossMarks}
 use Rattle.crosses.specs.Order.{Nth}
 use Rattle.crosses.specs.Marked.{markStart, markTotal}
 use Rattle.crosses.proofs.Places.{nth-stands, count-crosses}
-use Rattle.crosses.proofs.MarkLaws.{MarkedTo, start-none, marked-none, marked-all, marks-room, part-room, at-next, part-kept, marked-turn, mark-small}
-use borrow.Author.Needs.{needs}
+use Rattle.crosses.proofs.MarkLaws.{MarkedTo, Here, start-none, marked-none, marked-all, marks-room, part-room, at-next, marked-turn, marks-small}
+use borrow.Rule.Slice.PartMut.{same-len-mid}
 use Rattle.crosses.proofs.marked.mark_all.Statement.{statement}
 use Rattle.crosses.proofs.marked.mark_all.Tie as tie
 
@@ -39,11 +39,9 @@ shape-of-requires c κs =
     let a = c .before .before .before .before .before .before .before .before .args in
     let pre = c .before .before .before .before .before .before .before .before .pre in
     let s = a .t .now in
-    let t = tableOf s in
     let l = c .before .loop in
     let i = l .inv in
     let h = c .loop-test .taken in
-    let n = c .before .before .before .layout-of .result .«cross_count» in
     let stands = nth-stands s (pre .0) (l .c) (l .p) (omega (arith, h, i .1)) (i .2) in
     (stands, pre .1)
 
@@ -56,13 +54,10 @@ mul-mark-products c =
     let l = c .before .before .loop in
     let i = l .inv in
     let h = c .before .loop-test .taken in
-    let n = c .before .before .before .before .layout-of .result .«cross_count» in
-    let stands = nth-stands s (pre .0) (l .c) (l .p) (omega (arith, h, i .1)) (i .2) in
     let fits = c .shape-of .ensures in
     let size = c .shape-of .result .total in
-    let many = fits .products ∙ ap (productCount t) (i .2 .number) in
-    let room : markTotal t ≤ length (l .marks) = omega (arith, i .3, pre .3) in
-    omega (arith, mark-small s (pre .0) n (l .c) (l .at) size (i .1) h (i .4) many)
+    let here : Here t (l .c) (l .at) size = record { inside = omega (arith, h, i .1); start = i .4; many = fits .products ∙ ap (productCount t) (i .2 .number) } in
+    omega (arith, marks-small s (pre .0) (l .c) (l .at) size here)
 
 sub-mark-products : tie.Need-sub-mark-products Inv-loop μ-loop
 sub-mark-products c =
@@ -73,13 +68,11 @@ sub-mark-products c =
     let l = c .before .before .loop in
     let i = l .inv in
     let h = c .before .loop-test .taken in
-    let n = c .before .before .before .before .layout-of .result .«cross_count» in
-    let stands = nth-stands s (pre .0) (l .c) (l .p) (omega (arith, h, i .1)) (i .2) in
     let fits = c .shape-of .ensures in
     let size = c .shape-of .result .total in
-    let many = fits .products ∙ ap (productCount t) (i .2 .number) in
+    let here : Here t (l .c) (l .at) size = record { inside = omega (arith, h, i .1); start = i .4; many = fits .products ∙ ap (productCount t) (i .2 .number) } in
     let room : markTotal t ≤ length (l .marks) = omega (arith, i .3, pre .3) in
-    omega (arith, marks-room t n (l .c) (l .at) size (l .marks) (i .1) h (i .4) many room)
+    omega (arith, marks-room t (l .c) (l .at) size here (l .marks) room)
 
 part-mark-products-start : tie.Need-part-mark-products-start Inv-loop μ-loop
 part-mark-products-start c =
@@ -90,13 +83,11 @@ part-mark-products-start c =
     let l = c .before .before .loop in
     let i = l .inv in
     let h = c .before .loop-test .taken in
-    let n = c .before .before .before .before .layout-of .result .«cross_count» in
-    let stands = nth-stands s (pre .0) (l .c) (l .p) (omega (arith, h, i .1)) (i .2) in
     let fits = c .shape-of .ensures in
     let size = c .shape-of .result .total in
-    let many = fits .products ∙ ap (productCount t) (i .2 .number) in
+    let here : Here t (l .c) (l .at) size = record { inside = omega (arith, h, i .1); start = i .4; many = fits .products ∙ ap (productCount t) (i .2 .number) } in
     let room : markTotal t ≤ length (l .marks) = omega (arith, i .3, pre .3) in
-    omega (arith, marks-room t n (l .c) (l .at) size (l .marks) (i .1) h (i .4) many room)
+    omega (arith, marks-room t (l .c) (l .at) size here (l .marks) room)
 
 part-mark-products-end : tie.Need-part-mark-products-end Inv-loop μ-loop
 part-mark-products-end c = omega arith
@@ -110,13 +101,12 @@ mark-products-requires c κs =
     let l = c .before .before .before .loop in
     let i = l .inv in
     let h = c .before .before .loop-test .taken in
-    let n = c .before .before .before .before .before .layout-of .result .«cross_count» in
     let stands = nth-stands s (pre .0) (l .c) (l .p) (omega (arith, h, i .1)) (i .2) in
     let fits = c .before .shape-of .ensures in
     let size = c .before .shape-of .result .total in
-    let many = fits .products ∙ ap (productCount t) (i .2 .number) in
+    let here : Here t (l .c) (l .at) size = record { inside = omega (arith, h, i .1); start = i .4; many = fits .products ∙ ap (productCount t) (i .2 .number) } in
     let room : markTotal t ≤ length (l .marks) = omega (arith, i .3, pre .3) in
-    (stands, fits, pre .2, part-room t n (l .c) (l .at) size (l .marks) (i .1) h (i .4) many room)
+    (stands, fits, pre .2, part-room t (l .c) (l .at) size here (l .marks) room)
 
 add-at : tie.Need-add-at Inv-loop μ-loop
 add-at c =
@@ -127,24 +117,19 @@ add-at c =
     let l = c .before .before .before .before .before .before .before .loop in
     let i = l .inv in
     let h = c .before .before .before .before .before .before .loop-test .taken in
-    let n = c .before .before .before .before .before .before .before .before .before .layout-of .result .«cross_count» in
-    let stands = nth-stands s (pre .0) (l .c) (l .p) (omega (arith, h, i .1)) (i .2) in
     let fits = c .before .before .before .before .before .shape-of .ensures in
     let size = c .before .before .before .before .before .shape-of .result .total in
-    let many = fits .products ∙ ap (productCount t) (i .2 .number) in
-    let room : markTotal t ≤ length (l .marks) = omega (arith, i .3, pre .3) in
-    omega (arith, mark-small s (pre .0) n (l .c) (l .at) size (i .1) h (i .4) many)
+    let here : Here t (l .c) (l .at) size = record { inside = omega (arith, h, i .1); start = i .4; many = fits .products ∙ ap (productCount t) (i .2 .number) } in
+    omega (arith, marks-small s (pre .0) (l .c) (l .at) size here)
 
 next-place-requires : tie.Need-next-place-requires Inv-loop μ-loop
 next-place-requires c κs =
     let a = c .before .before .before .before .before .before .before .before .before .before .before .before .before .before .args in
     let pre = c .before .before .before .before .before .before .before .before .before .before .before .before .before .before .pre in
     let s = a .t .now in
-    let t = tableOf s in
     let l = c .before .before .before .before .before .before .before .loop in
     let i = l .inv in
     let h = c .before .before .before .before .before .before .loop-test .taken in
-    let n = c .before .before .before .before .before .before .before .before .before .layout-of .result .«cross_count» in
     let stands = nth-stands s (pre .0) (l .c) (l .p) (omega (arith, h, i .1)) (i .2) in
     stands
 
@@ -163,19 +148,17 @@ loop-again c =
     let l = c .before .before .before .before .before .before .before .before .loop in
     let i = l .inv in
     let h = c .before .before .before .before .before .before .before .loop-test .taken in
-    let n = c .before .before .before .before .before .before .before .before .before .before .layout-of .result .«cross_count» in
-    let stands = nth-stands s (pre .0) (l .c) (l .p) (omega (arith, h, i .1)) (i .2) in
     let fits = c .before .before .before .before .before .before .shape-of .ensures in
     let size = c .before .before .before .before .before .before .shape-of .result .total in
-    let many = fits .products ∙ ap (productCount t) (i .2 .number) in
+    let here : Here t (l .c) (l .at) size = record { inside = omega (arith, h, i .1); start = i .4; many = fits .products ∙ ap (productCount t) (i .2 .number) } in
     let room : markTotal t ≤ length (l .marks) = omega (arith, i .3, pre .3) in
     let q = c .before .before .before .before .mark-products in (
       omega (arith, h),
       i .1,
       subst (λ (x : ℕ). Nth s (x + 1) (c .next-place .result)) (i .2 .number) (c .next-place .ensures),
-      part-kept t n (l .c) (l .at) size (l .marks) (i .1) h (i .4) many room (q .last .0) (q .kept .0) ∙ i .3,
-      at-next t n (l .c) (l .at) size (l .marks) (i .1) h (i .4) many room,
-      marked-turn t n (l .c) (l .at) size (l .marks) (i .1) h (i .4) many room (q .last .0) (q .kept .0) (i .5) (q .ensures ∙ ap (crossMarks t) (i .2 .number)),
+      same-len-mid (l .at) (length (l .marks) - l .at) (l .marks) (q .last .0) (q .kept .0) ∙ i .3,
+      at-next t (l .c) (l .at) size here,
+      marked-turn t (l .c) (l .at) size here (l .marks) room (q .last .0) (q .kept .0) (i .5) (q .ensures ∙ ap (crossMarks t) (i .2 .number)),
     )
 
 same-length : tie.Need-same-length Inv-loop μ-loop
