@@ -2,3 +2,4 @@ pub mod Laws
 pub mod Places
 pub mod FlagsExact
 pub mod Walks
+pub mod MarkLaws

@@ -2,3 +2,4 @@
 pub mod Order
 pub mod Flags
 pub mod Labels
+pub mod Marked

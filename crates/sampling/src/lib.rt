@@ -5,6 +5,7 @@ use crosses::all::put_crosses;
 use crosses::bins::Ask;
 use crosses::labels::put_cross_items;
 use crosses::labels::put_cross_kinds;
+use crosses::marked::mark_all;
 use layout::layout_of;
 use points::counts::put_counts;
 use points::gates::gather;
@@ -59,12 +60,14 @@ fn put_crossed(flags: &mut [u8], at: usize, t: &[u8], sample: &[u32], total: boo
 {
     let mut origins = [0u16; 4096];
     let mut counts = [0u16; 16];
+    let mut marks = [0u16; 8192];
     put_origins(&mut origins, &mut counts, t);
+    mark_all(&mut marks, t, &counts, &origins);
     let ask = Ask {
         at: at,
         total: total,
     };
-    put_crosses(flags, t, sample, &counts, gate, &origins, ask);
+    put_crosses(flags, t, sample, &counts, gate, &marks, ask);
 }
 
 // What a sample raises. kinds and x are the table's.
