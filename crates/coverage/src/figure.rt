@@ -18,24 +18,18 @@ ghost use Rattle.model.specs.Register.{counterTotal, pointTotal, longEnough};
 ghost use Rattle.sampling.specs.Index.{Roomy};
 ghost use Rattle.coverage.specs.Answers.{itemAnswer, groupAnswer, TalliesOf};
 
-// Each item's total, and how many of it are covered, in arrays that have room for the table's counters.
-fn tallies_in(
-    items: &mut [u8],
-    flags: &mut [u8],
-    kinds: &mut [u8],
-    t: &[u8],
-    register: &[u32],
-) -> Tallies
+// Each item's total, and how many of it are covered, in arrays that have room for the table's counters. labels has the counters' kinds first, then their items.
+fn tallies_in(flags: &mut [u8], labels: &mut [u8], t: &[u8], register: &[u32]) -> Tallies
     requires { ⌜ (accepted (now t) ≡ true) × (longEnough (tableOf (now t)) (now register) ≡ true) ⌝ }
-    requires { ⌜ Roomy (tableOf (now t)) (length (now items)) × Roomy (tableOf (now t)) (length (now flags)) × Roomy (tableOf (now t)) (length (now kinds)) ⌝ }
+    requires { ⌜ Roomy (tableOf (now t)) (length (now flags)) × Roomy (tableOf (now t)) (length (now labels)) ⌝ }
     ensures { λ r. ⌜ TalliesOf (tableOf (now (t .entry))) (now (register .entry)) r ⌝ }
 {
-    let x = put_kinds(kinds, t);
-    put_items(items, t, x);
-    put_totals(flags, t, kinds, x);
+    let x = put_kinds(labels, t);
+    put_totals(flags, t, labels, x);
+    put_items(labels, t, x);
     let mut leasts = [0u32; 256];
     put_leasts(&mut leasts, t);
-    tally_all(items, flags, register, x.counters, &leasts)
+    tally_all(labels, flags, register, x.counters, &leasts)
 }
 
 // ---- size classes: a small table does not pay for the clearing of large arrays
@@ -44,30 +38,27 @@ fn small_tallies(t: &[u8], register: &[u32]) -> Tallies
     requires { ⌜ (accepted (now t) ≡ true) × (longEnough (tableOf (now t)) (now register) ≡ true) × Roomy (tableOf (now t)) 1024 ⌝ }
     ensures { λ r. ⌜ TalliesOf (tableOf (now (t .entry))) (now (register .entry)) r ⌝ }
 {
-    let mut items = [0u8; 1024];
     let mut flags = [0u8; 1024];
-    let mut kinds = [0u8; 1024];
-    tallies_in(&mut items, &mut flags, &mut kinds, t, register)
+    let mut labels = [0u8; 1024];
+    tallies_in(&mut flags, &mut labels, t, register)
 }
 
 fn medium_tallies(t: &[u8], register: &[u32]) -> Tallies
     requires { ⌜ (accepted (now t) ≡ true) × (longEnough (tableOf (now t)) (now register) ≡ true) × Roomy (tableOf (now t)) 4096 ⌝ }
     ensures { λ r. ⌜ TalliesOf (tableOf (now (t .entry))) (now (register .entry)) r ⌝ }
 {
-    let mut items = [0u8; 4096];
     let mut flags = [0u8; 4096];
-    let mut kinds = [0u8; 4096];
-    tallies_in(&mut items, &mut flags, &mut kinds, t, register)
+    let mut labels = [0u8; 4096];
+    tallies_in(&mut flags, &mut labels, t, register)
 }
 
 fn largest_tallies(t: &[u8], register: &[u32]) -> Tallies
     requires { ⌜ (accepted (now t) ≡ true) × (longEnough (tableOf (now t)) (now register) ≡ true) ⌝ }
     ensures { λ r. ⌜ TalliesOf (tableOf (now (t .entry))) (now (register .entry)) r ⌝ }
 {
-    let mut items = [0u8; 12416];
     let mut flags = [0u8; 12416];
-    let mut kinds = [0u8; 12416];
-    tallies_in(&mut items, &mut flags, &mut kinds, t, register)
+    let mut labels = [0u8; 12416];
+    tallies_in(&mut flags, &mut labels, t, register)
 }
 
 // Each item's total, and how many of it are covered.

@@ -1,11 +1,11 @@
 // Flat arrays over all counters of an accepted table, in the register's order: what a sample raises, what each counter is, what is in the total, whose item it is.
-use covers::put_has;
-use covers::put_origins;
+mod planned;
+
+use crate::planned::put_planned;
 use crosses::all::put_crosses;
 use crosses::bins::Ask;
 use crosses::labels::put_cross_items;
 use crosses::labels::put_cross_kinds;
-use crosses::marked::mark_all;
 use layout::layout_of;
 use points::counts::put_counts;
 use points::gates::gather;
@@ -14,15 +14,16 @@ use points::kinds::put_point_kinds;
 use points::points::put_points;
 use points::spread::scatter;
 ghost use mathlib.Core.Path.{_≡_};
-ghost use mathlib.Core.Bool.{true, false};
-ghost use Prim.Native.Nat.{_+_, _≤_};
+ghost use mathlib.Core.Bool.{true};
+ghost use Prim.Native.Nat.{_+_, _*_, _≤_};
 ghost use lib.ListN.{length, take};
 ghost use Rattle.model.specs.Format.{accepted, tableOf};
-ghost use Rattle.model.specs.Counters.{counters, hasValue};
+ghost use Rattle.model.specs.Counters.{counters};
 ghost use Rattle.model.specs.Sampling.{Stretches, coverHit};
-ghost use Rattle.model.specs.Register.{runStretches};
+ghost use Rattle.model.specs.Register.{pointTotal, counterTotal, runStretches};
 ghost use Rattle.arrays.specs.Put.{put};
 ghost use Rattle.arrays.specs.Flat.{hitFlags, totalFlags, kindsOf, itemsOf, allCrossCounters, Tells, Readings};
+ghost use Rattle.crosses.specs.Marked.{markTotal};
 ghost use Rattle.sampling.specs.Index.{Roomy, Indexed, Labelled};
 
 // Where each point's counters begin, how many cover bins it has, and how many points and counters there are.
@@ -52,22 +53,67 @@ pub fn put_kinds(kinds: &mut [u8], t: &[u8]) -> Index
     }
 }
 
-// The flags of the crosses' counters, from the gates of the cover bins.
-fn put_crossed(flags: &mut [u8], at: usize, t: &[u8], sample: &[u32], total: bool, gate: &[u8])
-    requires { ⌜ (accepted (now t) ≡ true) × (at + length (allCrossCounters (tableOf (now t))) ≤ length (now flags)) ⌝ }
-    ensures raised { λ _. ⌜ (total ≡ false → Tells (coverHit (tableOf (now (t .entry))) (now (sample .entry))) (tableOf (now (t .entry))) (now (gate .entry)) → (m : Stretches) → now (flags .exit) ≡ put at (hitFlags (tableOf (now (t .entry))) (now (sample .entry)) m (allCrossCounters (tableOf (now (t .entry))))) (now (flags .entry))) ⌝ }
-    ensures counted { λ _. ⌜ (total ≡ true → Tells (hasValue (tableOf (now (t .entry)))) (tableOf (now (t .entry))) (now (gate .entry)) → now (flags .exit) ≡ put at (totalFlags (tableOf (now (t .entry))) (allCrossCounters (tableOf (now (t .entry))))) (now (flags .entry))) ⌝ }
+// ---- the crosses' part of a sample, from at on: the gate tells which cover bins it hits
+
+fn crossed_in(
+    flags: &mut [u8],
+    t: &[u8],
+    sample: &[u32],
+    gate: &[u8],
+    marks: &mut [u16],
+    x: Index,
+    at: usize,
+)
+    requires { ⌜ (accepted (now t) ≡ true) × Indexed (tableOf (now t)) x × (at + length (allCrossCounters (tableOf (now t))) ≤ length (now flags)) × (markTotal (tableOf (now t)) ≤ length (now marks)) ⌝ }
+    ensures { λ _. ⌜ (Tells (coverHit (tableOf (now (t .entry))) (now (sample .entry))) (tableOf (now (t .entry))) (now (gate .entry)) → (m : Stretches) → now (flags .exit) ≡ put at (hitFlags (tableOf (now (t .entry))) (now (sample .entry)) m (allCrossCounters (tableOf (now (t .entry))))) (now (flags .entry))) ⌝ }
 {
-    let mut origins = [0u16; 4096];
-    let mut counts = [0u16; 16];
-    let mut marks = [0u16; 8192];
-    put_origins(&mut origins, &mut counts, t);
-    mark_all(&mut marks, t, &counts, &origins);
+    let counts = x.counts;
+    let mut has = [0u8; 4096];
+    put_planned(&mut has, marks, t, x);
     let ask = Ask {
         at: at,
-        total: total,
+        total: false,
     };
-    put_crosses(flags, t, sample, &counts, gate, &marks, ask);
+    put_crosses(flags, t, sample, &counts, gate, marks, ask);
+}
+
+fn small_crossed(flags: &mut [u8], t: &[u8], sample: &[u32], gate: &[u8], x: Index, at: usize)
+    requires { ⌜ (accepted (now t) ≡ true) × Indexed (tableOf (now t)) x × (at + length (allCrossCounters (tableOf (now t))) ≤ length (now flags)) × (counterTotal (tableOf (now t)) ≤ 1024) ⌝ }
+    ensures { λ _. ⌜ (Tells (coverHit (tableOf (now (t .entry))) (now (sample .entry))) (tableOf (now (t .entry))) (now (gate .entry)) → (m : Stretches) → now (flags .exit) ≡ put at (hitFlags (tableOf (now (t .entry))) (now (sample .entry)) m (allCrossCounters (tableOf (now (t .entry))))) (now (flags .entry))) ⌝ }
+{
+    let mut marks = [0u16; 1024];
+    crossed_in(flags, t, sample, gate, &mut marks, x, at);
+}
+
+fn medium_crossed(flags: &mut [u8], t: &[u8], sample: &[u32], gate: &[u8], x: Index, at: usize)
+    requires { ⌜ (accepted (now t) ≡ true) × Indexed (tableOf (now t)) x × (at + length (allCrossCounters (tableOf (now t))) ≤ length (now flags)) × (counterTotal (tableOf (now t)) ≤ 4096) ⌝ }
+    ensures { λ _. ⌜ (Tells (coverHit (tableOf (now (t .entry))) (now (sample .entry))) (tableOf (now (t .entry))) (now (gate .entry)) → (m : Stretches) → now (flags .exit) ≡ put at (hitFlags (tableOf (now (t .entry))) (now (sample .entry)) m (allCrossCounters (tableOf (now (t .entry))))) (now (flags .entry))) ⌝ }
+{
+    let mut marks = [0u16; 4096];
+    crossed_in(flags, t, sample, gate, &mut marks, x, at);
+}
+
+fn largest_crossed(flags: &mut [u8], t: &[u8], sample: &[u32], gate: &[u8], x: Index, at: usize)
+    requires { ⌜ (accepted (now t) ≡ true) × Indexed (tableOf (now t)) x × (at + length (allCrossCounters (tableOf (now t))) ≤ length (now flags)) ⌝ }
+    ensures { λ _. ⌜ (Tells (coverHit (tableOf (now (t .entry))) (now (sample .entry))) (tableOf (now (t .entry))) (now (gate .entry)) → (m : Stretches) → now (flags .exit) ≡ put at (hitFlags (tableOf (now (t .entry))) (now (sample .entry)) m (allCrossCounters (tableOf (now (t .entry))))) (now (flags .entry))) ⌝ }
+{
+    let mut marks = [0u16; 8192];
+    crossed_in(flags, t, sample, gate, &mut marks, x, at);
+}
+
+fn put_crossed(flags: &mut [u8], t: &[u8], sample: &[u32], gate: &[u8], x: Index, at: usize)
+    requires { ⌜ (accepted (now t) ≡ true) × Indexed (tableOf (now t)) x × (at + length (allCrossCounters (tableOf (now t))) ≤ length (now flags)) ⌝ }
+    ensures { λ _. ⌜ (Tells (coverHit (tableOf (now (t .entry))) (now (sample .entry))) (tableOf (now (t .entry))) (now (gate .entry)) → (m : Stretches) → now (flags .exit) ≡ put at (hitFlags (tableOf (now (t .entry))) (now (sample .entry)) m (allCrossCounters (tableOf (now (t .entry))))) (now (flags .entry))) ⌝ }
+{
+    if x.counters <= 1024 {
+        small_crossed(flags, t, sample, gate, x, at);
+        return;
+    }
+    if x.counters <= 4096 {
+        medium_crossed(flags, t, sample, gate, x, at);
+        return;
+    }
+    largest_crossed(flags, t, sample, gate, x, at);
 }
 
 // What a sample raises. kinds and x are the table's.
@@ -88,20 +134,74 @@ pub fn put_hits(
     let n = put_points(flags, t, sample, readings, lens);
     let mut gate = [0u8; 4096];
     gather(&mut gate, t, kinds, flags, &starts);
-    put_crossed(flags, n, t, sample, false, &gate);
+    put_crossed(flags, t, sample, &gate, x, n);
 }
 
-// Which counters count in their item's total. kinds and x are the table's.
+// ---- which counters count in their item's total
+
+fn totals_in(
+    flags: &mut [u8],
+    t: &[u8],
+    kinds: &[u8],
+    has: &mut [u8],
+    marks: &mut [u16],
+    x: Index,
+)
+    requires { ⌜ (accepted (now t) ≡ true) × Roomy (tableOf (now t)) (length (now flags)) × Indexed (tableOf (now t)) x × Labelled (tableOf (now t)) (now kinds) × (256 * pointTotal (tableOf (now t)) ≤ length (now has)) × (markTotal (tableOf (now t)) ≤ length (now marks)) ⌝ }
+    ensures { λ _. ⌜ now (flags .exit) ≡ put 0 (totalFlags (tableOf (now (t .entry))) (counters (tableOf (now (t .entry))))) (now (flags .entry)) ⌝ }
+{
+    let starts = x.starts;
+    let counts = x.counts;
+    put_planned(has, marks, t, x);
+    let n = scatter(flags, t, kinds, has, &starts);
+    let ask = Ask { at: n, total: true };
+    let none = [0u32; 1];
+    put_crosses(flags, t, &none, &counts, has, marks, ask);
+}
+
+fn small_totals(flags: &mut [u8], t: &[u8], kinds: &[u8], x: Index)
+    requires { ⌜ (accepted (now t) ≡ true) × Roomy (tableOf (now t)) (length (now flags)) × Indexed (tableOf (now t)) x × Labelled (tableOf (now t)) (now kinds) × Roomy (tableOf (now t)) 1024 ⌝ }
+    ensures { λ _. ⌜ now (flags .exit) ≡ put 0 (totalFlags (tableOf (now (t .entry))) (counters (tableOf (now (t .entry))))) (now (flags .entry)) ⌝ }
+{
+    let mut has = [0u8; 1024];
+    let mut marks = [0u16; 1024];
+    totals_in(flags, t, kinds, &mut has, &mut marks, x);
+}
+
+fn medium_totals(flags: &mut [u8], t: &[u8], kinds: &[u8], x: Index)
+    requires { ⌜ (accepted (now t) ≡ true) × Roomy (tableOf (now t)) (length (now flags)) × Indexed (tableOf (now t)) x × Labelled (tableOf (now t)) (now kinds) × Roomy (tableOf (now t)) 4096 ⌝ }
+    ensures { λ _. ⌜ now (flags .exit) ≡ put 0 (totalFlags (tableOf (now (t .entry))) (counters (tableOf (now (t .entry))))) (now (flags .entry)) ⌝ }
+{
+    let mut has = [0u8; 4096];
+    let mut marks = [0u16; 4096];
+    totals_in(flags, t, kinds, &mut has, &mut marks, x);
+}
+
+fn largest_totals(flags: &mut [u8], t: &[u8], kinds: &[u8], x: Index)
+    requires { ⌜ (accepted (now t) ≡ true) × Roomy (tableOf (now t)) (length (now flags)) × Indexed (tableOf (now t)) x × Labelled (tableOf (now t)) (now kinds) ⌝ }
+    ensures { λ _. ⌜ now (flags .exit) ≡ put 0 (totalFlags (tableOf (now (t .entry))) (counters (tableOf (now (t .entry))))) (now (flags .entry)) ⌝ }
+{
+    let mut has = [0u8; 4096];
+    let mut marks = [0u16; 8192];
+    totals_in(flags, t, kinds, &mut has, &mut marks, x);
+}
+
+// kinds and x are the table's.
 pub fn put_totals(flags: &mut [u8], t: &[u8], kinds: &[u8], x: Index)
     requires { ⌜ (accepted (now t) ≡ true) × Roomy (tableOf (now t)) (length (now flags)) × Indexed (tableOf (now t)) x × Labelled (tableOf (now t)) (now kinds) ⌝ }
     ensures { λ _. ⌜ now (flags .exit) ≡ put 0 (totalFlags (tableOf (now (t .entry))) (counters (tableOf (now (t .entry))))) (now (flags .entry)) ⌝ }
 {
-    let starts = x.starts;
-    let mut has = [0u8; 4096];
-    put_has(&mut has, t);
-    let n = scatter(flags, t, kinds, &has, &starts);
-    let none = [0u32; 1];
-    put_crossed(flags, n, t, &none, true, &has);
+    if x.counters <= 1024 {
+        if x.points <= 4 {
+            small_totals(flags, t, kinds, x);
+            return;
+        }
+    }
+    if x.counters <= 4096 {
+        medium_totals(flags, t, kinds, x);
+        return;
+    }
+    largest_totals(flags, t, kinds, x);
 }
 
 // The item that each counter belongs to. x is the table's.

@@ -1,7 +1,0 @@
-pub mod BitLaws
-pub mod FormLaws
-pub mod PartLaws
-pub mod OriginLaws
-pub mod PartsExact
-pub mod Accepted
-pub mod PointRows

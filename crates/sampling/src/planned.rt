@@ -1,0 +1,100 @@
+// What a table's values say before any sample: which cover bins still hold one, and which products each cross bin selects. x is the table's index.
+use crate::Index;
+use crosses::marked::mark_all;
+use layout::layout_of;
+use origins::put_origins;
+use pieces::build::put_plan;
+use pieces::plan::put_has;
+ghost use mathlib.Core.Path.{_≡_};
+ghost use mathlib.Core.Bool.{true};
+ghost use Prim.Native.Nat.{_*_, _≤_};
+ghost use lib.ListN.{length};
+ghost use Rattle.model.specs.Format.{accepted, tableOf};
+ghost use Rattle.model.specs.Counters.{hasValue};
+ghost use Rattle.model.specs.Register.{pointTotal};
+ghost use Rattle.arrays.specs.Flat.{Tells};
+ghost use Rattle.pieces.specs.Plan.{planNeed, ValuesPlan};
+ghost use Rattle.crosses.specs.Marked.{markTotal, Marked};
+ghost use Rattle.sampling.specs.Index.{Indexed};
+
+// The marks of the products of all crosses, by the plan of the table's values.
+fn mark_planned(marks: &mut [u16], t: &[u8], plan: &[u64], bounds: &[u16], x: Index)
+    requires { ⌜ (accepted (now t) ≡ true) × Indexed (tableOf (now t)) x × ValuesPlan (tableOf (now t)) (now plan) (now bounds) × (markTotal (tableOf (now t)) ≤ length (now marks)) ⌝ }
+    ensures { λ _. ⌜ Marked (tableOf (now (t .entry))) (now (marks .exit)) ⌝ }
+{
+    let counts = x.counts;
+    let mut origins = [0u16; 4096];
+    put_origins(&mut origins, t);
+    mark_all(marks, t, &counts, &origins, plan, bounds);
+}
+
+// In an array that has room for the plan.
+fn plan_in(has: &mut [u8], marks: &mut [u16], plan: &mut [u64], t: &[u8], x: Index)
+    requires { ⌜ (accepted (now t) ≡ true) × Indexed (tableOf (now t)) x × (planNeed (tableOf (now t)) ≤ length (now plan)) ⌝ }
+    requires { ⌜ (256 * pointTotal (tableOf (now t)) ≤ length (now has)) × (markTotal (tableOf (now t)) ≤ length (now marks)) ⌝ }
+    ensures { λ _. ⌜ Tells (hasValue (tableOf (now (t .entry)))) (tableOf (now (t .entry))) (now (has .exit)) × Marked (tableOf (now (t .entry))) (now (marks .exit)) ⌝ }
+{
+    let counts = x.counts;
+    let mut bounds = [0u16; 33];
+    put_plan(plan, &mut bounds, t);
+    put_has(has, t, plan, &bounds, &counts);
+    mark_planned(marks, t, plan, &bounds, x);
+}
+
+// ---- size classes
+
+fn small_plan(has: &mut [u8], marks: &mut [u16], t: &[u8], x: Index)
+    requires { ⌜ (accepted (now t) ≡ true) × Indexed (tableOf (now t)) x × (planNeed (tableOf (now t)) ≤ 1024) ⌝ }
+    requires { ⌜ (256 * pointTotal (tableOf (now t)) ≤ length (now has)) × (markTotal (tableOf (now t)) ≤ length (now marks)) ⌝ }
+    ensures { λ _. ⌜ Tells (hasValue (tableOf (now (t .entry)))) (tableOf (now (t .entry))) (now (has .exit)) × Marked (tableOf (now (t .entry))) (now (marks .exit)) ⌝ }
+{
+    let mut plan = [0u64; 1024];
+    plan_in(has, marks, &mut plan, t, x);
+}
+
+fn medium_plan(has: &mut [u8], marks: &mut [u16], t: &[u8], x: Index)
+    requires { ⌜ (accepted (now t) ≡ true) × Indexed (tableOf (now t)) x × (planNeed (tableOf (now t)) ≤ 4096) ⌝ }
+    requires { ⌜ (256 * pointTotal (tableOf (now t)) ≤ length (now has)) × (markTotal (tableOf (now t)) ≤ length (now marks)) ⌝ }
+    ensures { λ _. ⌜ Tells (hasValue (tableOf (now (t .entry)))) (tableOf (now (t .entry))) (now (has .exit)) × Marked (tableOf (now (t .entry))) (now (marks .exit)) ⌝ }
+{
+    let mut plan = [0u64; 4096];
+    plan_in(has, marks, &mut plan, t, x);
+}
+
+fn largest_plan(has: &mut [u8], marks: &mut [u16], t: &[u8], x: Index)
+    requires { ⌜ (accepted (now t) ≡ true) × Indexed (tableOf (now t)) x ⌝ }
+    requires { ⌜ (256 * pointTotal (tableOf (now t)) ≤ length (now has)) × (markTotal (tableOf (now t)) ≤ length (now marks)) ⌝ }
+    ensures { λ _. ⌜ Tells (hasValue (tableOf (now (t .entry)))) (tableOf (now (t .entry))) (now (has .exit)) × Marked (tableOf (now (t .entry))) (now (marks .exit)) ⌝ }
+{
+    let mut plan = [0u64; 16432];
+    plan_in(has, marks, &mut plan, t, x);
+}
+
+// At least as many words as the plan of the table's values needs: a point's counters are at least as many as its cover bins.
+fn plan_words(t: &[u8], x: Index) -> usize
+    requires { ⌜ (accepted (now t) ≡ true) × Indexed (tableOf (now t)) x ⌝ }
+    ensures { λ r. ⌜ planNeed (tableOf (now (t .entry))) ≤ r ⌝ }
+{
+    let l = layout_of(t);
+    let starts = x.starts;
+    let counters = starts[x.points] as usize;
+    4 * l.range_count + 3 * (counters + x.points)
+}
+
+// Which cover bins still hold a value, 256 bytes for each point, and the marks of the products of all crosses.
+pub fn put_planned(has: &mut [u8], marks: &mut [u16], t: &[u8], x: Index)
+    requires { ⌜ (accepted (now t) ≡ true) × Indexed (tableOf (now t)) x ⌝ }
+    requires { ⌜ (256 * pointTotal (tableOf (now t)) ≤ length (now has)) × (markTotal (tableOf (now t)) ≤ length (now marks)) ⌝ }
+    ensures { λ _. ⌜ Tells (hasValue (tableOf (now (t .entry)))) (tableOf (now (t .entry))) (now (has .exit)) × Marked (tableOf (now (t .entry))) (now (marks .exit)) ⌝ }
+{
+    let need = plan_words(t, x);
+    if need <= 1024 {
+        small_plan(has, marks, t, x);
+        return;
+    }
+    if need <= 4096 {
+        medium_plan(has, marks, t, x);
+        return;
+    }
+    largest_plan(has, marks, t, x);
+}
