@@ -21,7 +21,6 @@ use Rattle.model.proofs.Readers.{All, all-both, all-map}
 use Rattle.model.proofs.Booleans.{false-true, and-left, and-right}
 use Rattle.model.proofs.Lists.{length-row, getD-row, getD-map}
 use Rattle.model.proofs.RawLaws.{length-rows}
-use Rattle.model.proofs.RawValues.{length-bins}
 use Rattle.model.proofs.Sections.{accepted-decodes, accepted-layout}
 use Rattle.model.proofs.Access.{bins-access, ranges-access}
 use Rattle.model.proofs.WellFormed.{GoodPoint, Legal, GoodBin, WellFormed, well-formed}
@@ -39,6 +38,7 @@ use Rattle.spans.specs.Point.{rangesListed}
 use Rattle.spans.specs.Collected.{fitsFrom}
 use Rattle.spans.proofs.Ends.{both}
 use Rattle.spans.proofs.CollectLaws.{length-ranges}
+use Rattle.spans.proofs.Point.{bins-many, ranges-most, point-listed}
 use Rattle.parts.specs.Rows.{Source, countOf, settledRanges, rowRanges, isOwn, dealable, rising, ownSources, autoSources, sources, Row, partsAt, rowsFrom, partTotal, partFlags, distributedBit, distributedFlags}
 use Rattle.parts.specs.Words.{rowAt, rowsAt, ownAt, listedIf, ownListed, If, Fit, Fits, rangeTotal, allBinWords, sourcesAt, Planned, Room}
 use Rattle.parts.specs.Point.{RowsOf, climbs}
@@ -116,20 +116,10 @@ module _ (s : List ℕ) (t : Table) (ok : WellFormed t) (p : ℕ) where
   all-fits a r zero h = tt
   all-fits a r (suc n) h = (bin-fits a r (h .0) (ownAt s p a) refl, all-fits (a + 8) (r + 17 * u16 s (a + 6)) n (h .1))
 
-ranges-most : (n : ℕ) (vs : List ValueBin) → sumOf (λ b. length (b .ranges)) vs ≤ n → All (λ b. length (b .ranges) ≤ n) vs
+each-few : (n : ℕ) (vs : List ValueBin) → sumOf (λ b. length (b .ranges)) vs ≤ n → All (λ b. length (b .ranges) ≤ n) vs
 unfolding sumOf
-ranges-most n [] h = tt
-ranges-most n (u ∷ vs) h = (omega arith, ranges-most n vs (omega arith))
-
-listed-most : (p : ℕ) (vs : List ValueBin) → sumOf (λ b. cond (eqb (b .point) p) (length (b .ranges)) 0) vs ≤ sumOf (λ b. length (b .ranges)) vs
-unfolding sumOf
-listed-most p [] = omega arith
-listed-most p (u ∷ vs) = go (eqb (u .point) p) (listed-most p vs)
-  where
-    go : (c : Bool) → sumOf (λ b. cond (eqb (b .point) p) (length (b .ranges)) 0) vs ≤ sumOf (λ b. length (b .ranges)) vs
-        → cond c (length (u .ranges)) 0 + sumOf (λ b. cond (eqb (b .point) p) (length (b .ranges)) 0) vs ≤ length (u .ranges) + sumOf (λ b. length (b .ranges)) vs
-    go true h = omega arith
-    go false h = omega arith
+each-few n [] h = tt
+each-few n (u ∷ vs) h = (omega arith, each-few n vs (omega arith))
 
 own-listed-fewer : (s : List ℕ) (p a r n : ℕ) → ownListed s p a n ≤ sumOf (λ b. cond (eqb (b .point) p) (length (b .ranges)) 0) (binsAt s a r n)
 unfolding ownListed binsAt sumOf
@@ -200,7 +190,7 @@ module _ (s : List ℕ) (ok : accepted s ≡ true) (p : ℕ) (inside : p < point
   good-bins : All (Good s T w p) (T .valueBins)
   good-bins =
       all-both (GoodBin (T .points)) (λ b. (length (b .ranges) ≤ 1024) × DealsIn p b) (Good s T w p) (λ b x y. (x, y .0, y .1)) (T .valueBins) (w .bins)
-      (all-both (λ b. length (b .ranges) ≤ 1024) (DealsIn p) (λ b. (length (b .ranges) ≤ 1024) × DealsIn p b) (λ b x y. (x, y)) (T .valueBins) (ranges-most 1024 (T .valueBins) few-listed) deals)
+      (all-both (λ b. length (b .ranges) ≤ 1024) (DealsIn p) (λ b. (length (b .ranges) ≤ 1024) × DealsIn p b) (λ b x y. (x, y)) (T .valueBins) (each-few 1024 (T .valueBins) few-listed) deals)
 
   -- ---- the rows
 
@@ -242,7 +232,7 @@ module _ (s : List ℕ) (ok : accepted s ≡ true) (p : ℕ) (inside : p < point
       )
     where
       few-own : rangesListed T p ≤ 1024
-      few-own = unfold rangesListed in (omega (arith, listed-most p (T .valueBins), few-listed))
+      few-own = omega (arith, point-listed s ok p, ranges-most s ok)
 
   -- ---- by places
 
@@ -261,9 +251,6 @@ module _ (s : List ℕ) (ok : accepted s ≡ true) (p : ℕ) (inside : p < point
   unfolding sources
   few-parts = omega (arith, total-parts (ownSources (lowest (pointAt T p)) p (T .valueBins)) (autoSources T p), parts-are, few-covers)
 
-  bins-many : length (T .valueBins) ≡ recordCount s 1
-  bins-many = ap length (bins-raw s T e p inside) ∙ length-bins s (recordsPlace s 1) (recordsPlace s 2) (recordCount s 1)
-
   room-raw : (x y : List ℕ) → 5 * (rangesListed T p + 1) ≤ length x → 3 * (length (T .valueBins) + 1) ≤ length y → Room s (lowest (pointRecord s (recordsPlace s 0 + 11 * p))) p (recordsPlace s 1) (recordsPlace s 2) (recordCount s 1) x y
   unfolding rangesListed
   room-raw x y hx hy =
@@ -276,7 +263,7 @@ module _ (s : List ℕ) (ok : accepted s ≡ true) (p : ℕ) (inside : p < point
         some-ranges = omega arith;
         some-bins = omega arith;
         ranges = omega (arith, ap length (range-words s low-raw p 0 a r n), length-all 0 ss);
-        bins = omega (arith, ap length (bin-words s low-raw p 0 a r n), length-bin-words 0 ss, all-light s low-raw p a r n fits-raw .1, bins-many);
+        bins = omega (arith, ap length (bin-words s low-raw p 0 a r n), length-bin-words 0 ss, all-light s low-raw p a r n fits-raw .1, bins-many s ok);
         parts = omega (arith, part-count s low-raw p a r n, ap partTotal own-bins, few-parts);
       }
 
