@@ -1,7 +1,7 @@
 -- What an accepted table grants: its bins fit, there is room for its rows, and these are the rows of the point.
 -- Assumes nothing.
 use mathlib.Core.Path.{_≡_, refl, sym, ap, ap₂, _∙_, subst}
-use mathlib.Core.Bool.{Bool, true, false, not, _||_, cond}
+use mathlib.Core.Bool.{Bool, true, false, not, _&&_, _||_, cond}
 use mathlib.Core.List.{List, [], _∷_, _++_}
 use Prim.Native.Nat.{ℕ, zero, suc, _+_, _-_, _*_, _≤_, _<_}
 use native.Mathlib.Omega.{arith}
@@ -38,8 +38,9 @@ use Rattle.spans.specs.Point.{rangesListed}
 use Rattle.spans.specs.Collected.{fitsFrom}
 use Rattle.spans.proofs.Ends.{both}
 use Rattle.spans.proofs.CollectLaws.{length-ranges}
+use Rattle.spans.proofs.Point.{bins-many, ranges-most, point-listed}
 use Rattle.parts.specs.Rows.{Source, countOf, settledRanges, rowRanges, isOwn, dealable, rising, ownSources, autoSources, sources, Row, partsAt, rowsFrom, partTotal, partFlags, distributedBit, distributedFlags}
-use Rattle.parts.specs.Words.{rowAt, rowsAt, ownAt, If, Fit, Fits, rangeTotal, allBinWords, sourcesAt, Planned, Room}
+use Rattle.parts.specs.Words.{rowAt, rowsAt, ownAt, listedIf, ownListed, If, Fit, Fits, rangeTotal, allBinWords, sourcesAt, Planned, Room}
 use Rattle.parts.specs.Point.{RowsOf, climbs}
 use Rattle.parts.proofs.SpanLaws.{settled-rises, settled-some, spans-fit}
 use Rattle.parts.proofs.FlagLaws.{Sounds}
@@ -115,20 +116,23 @@ module _ (s : List ℕ) (t : Table) (ok : WellFormed t) (p : ℕ) where
   all-fits a r zero h = tt
   all-fits a r (suc n) h = (bin-fits a r (h .0) (ownAt s p a) refl, all-fits (a + 8) (r + 17 * u16 s (a + 6)) n (h .1))
 
-ranges-most : (n : ℕ) (vs : List ValueBin) → sumOf (λ b. length (b .ranges)) vs ≤ n → All (λ b. length (b .ranges) ≤ n) vs
+each-few : (n : ℕ) (vs : List ValueBin) → sumOf (λ b. length (b .ranges)) vs ≤ n → All (λ b. length (b .ranges) ≤ n) vs
 unfolding sumOf
-ranges-most n [] h = tt
-ranges-most n (u ∷ vs) h = (omega arith, ranges-most n vs (omega arith))
+each-few n [] h = tt
+each-few n (u ∷ vs) h = (omega arith, each-few n vs (omega arith))
 
-listed-most : (p : ℕ) (vs : List ValueBin) → sumOf (λ b. cond (eqb (b .point) p) (length (b .ranges)) 0) vs ≤ sumOf (λ b. length (b .ranges)) vs
-unfolding sumOf
-listed-most p [] = omega arith
-listed-most p (u ∷ vs) = go (eqb (u .point) p) (listed-most p vs)
+own-listed-fewer : (s : List ℕ) (p a r n : ℕ) → ownListed s p a n ≤ sumOf (λ b. cond (eqb (b .point) p) (length (b .ranges)) 0) (binsAt s a r n)
+unfolding ownListed binsAt sumOf
+own-listed-fewer s p a r zero = omega arith
+own-listed-fewer s p a r (suc n) = go (eqb (byte s a) p) (eqb (byte s (a + 1)) 0) (own-listed-fewer s p (a + 8) (r + 17 * u16 s (a + 6)) n)
   where
-    go : (c : Bool) → sumOf (λ b. cond (eqb (b .point) p) (length (b .ranges)) 0) vs ≤ sumOf (λ b. length (b .ranges)) vs
-        → cond c (length (u .ranges)) 0 + sumOf (λ b. cond (eqb (b .point) p) (length (b .ranges)) 0) vs ≤ length (u .ranges) + sumOf (λ b. length (b .ranges)) vs
-    go true h = omega arith
-    go false h = omega arith
+    rest : ℕ
+    rest = sumOf (λ b. cond (eqb (b .point) p) (length (b .ranges)) 0) (binsAt s (a + 8) (r + 17 * u16 s (a + 6)) n)
+
+    go : (c d : Bool) → ownListed s p (a + 8) n ≤ rest → listedIf (c && d) s a + ownListed s p (a + 8) n ≤ cond c (length (rangesAt s r (u16 s (a + 6)))) 0 + rest
+    go true true h = omega (arith, length-ranges s r (u16 s (a + 6)))
+    go true false h = omega arith
+    go false d h = omega arith
 
 length-bin-words : (first : ℕ) (ss : List Source) → length (allBinWords first ss) ≡ 3 * length ss
 unfolding allBinWords
@@ -186,7 +190,7 @@ module _ (s : List ℕ) (ok : accepted s ≡ true) (p : ℕ) (inside : p < point
   good-bins : All (Good s T w p) (T .valueBins)
   good-bins =
       all-both (GoodBin (T .points)) (λ b. (length (b .ranges) ≤ 1024) × DealsIn p b) (Good s T w p) (λ b x y. (x, y .0, y .1)) (T .valueBins) (w .bins)
-      (all-both (λ b. length (b .ranges) ≤ 1024) (DealsIn p) (λ b. (length (b .ranges) ≤ 1024) × DealsIn p b) (λ b x y. (x, y)) (T .valueBins) (ranges-most 1024 (T .valueBins) few-listed) deals)
+      (all-both (λ b. length (b .ranges) ≤ 1024) (DealsIn p) (λ b. (length (b .ranges) ≤ 1024) × DealsIn p b) (λ b x y. (x, y)) (T .valueBins) (each-few 1024 (T .valueBins) few-listed) deals)
 
   -- ---- the rows
 
@@ -228,7 +232,7 @@ module _ (s : List ℕ) (ok : accepted s ≡ true) (p : ℕ) (inside : p < point
       )
     where
       few-own : rangesListed T p ≤ 1024
-      few-own = unfold rangesListed in (omega (arith, listed-most p (T .valueBins), few-listed))
+      few-own = omega (arith, point-listed s ok p, ranges-most s ok)
 
   -- ---- by places
 
@@ -247,20 +251,27 @@ module _ (s : List ℕ) (ok : accepted s ≡ true) (p : ℕ) (inside : p < point
   unfolding sources
   few-parts = omega (arith, total-parts (ownSources (lowest (pointAt T p)) p (T .valueBins)) (autoSources T p), parts-are, few-covers)
 
-  room-raw : (x y : List ℕ) → 5125 ≤ length x → 1539 ≤ length y → Room s (lowest (pointRecord s (recordsPlace s 0 + 11 * p))) p (recordsPlace s 1) (recordsPlace s 2) (recordCount s 1) x y
+  room-raw : (x y : List ℕ) → 5 * (rangesListed T p + 1) ≤ length x → 3 * (length (T .valueBins) + 1) ≤ length y → Room s (lowest (pointRecord s (recordsPlace s 0 + 11 * p))) p (recordsPlace s 1) (recordsPlace s 2) (recordCount s 1) x y
+  unfolding rangesListed
   room-raw x y hx hy =
       let a = recordsPlace s 1 in
       let r = recordsPlace s 2 in
       let n = recordCount s 1 in
       let ss = ownSources low-raw p (binsAt s a r n) in
-      let ranges : rangeTotal ss ≤ 1024 = omega (arith, ap rangeTotal own-bins, own-fewer (lowest (pointAt T p)) p (T .valueBins), listed-most p (T .valueBins), few-listed) in
+      let ranges : rangeTotal ss ≤ sumOf (λ b. cond (eqb (b .point) p) (length (b .ranges)) 0) (T .valueBins) = omega (arith, ap rangeTotal own-bins, own-fewer (lowest (pointAt T p)) p (T .valueBins)) in
       record {
         some-ranges = omega arith;
         some-bins = omega arith;
         ranges = omega (arith, ap length (range-words s low-raw p 0 a r n), length-all 0 ss);
-        bins = omega (arith, ap length (bin-words s low-raw p 0 a r n), length-bin-words 0 ss, all-light s low-raw p a r n fits-raw .1, all-near s T e p inside .few-bins);
+        bins = omega (arith, ap length (bin-words s low-raw p 0 a r n), length-bin-words 0 ss, all-light s low-raw p a r n fits-raw .1, bins-many s ok);
         parts = omega (arith, part-count s low-raw p a r n, ap partTotal own-bins, few-parts);
       }
+
+  listed-raw : ownListed s p (recordsPlace s 1) (recordCount s 1) ≤ rangesListed T p
+  unfolding rangesListed
+  listed-raw =
+      subst (λ (bs : List ValueBin). ownListed s p (recordsPlace s 1) (recordCount s 1) ≤ sumOf (λ b. cond (eqb (b .point) p) (length (b .ranges)) 0) bs) (sym (bins-raw s T e p inside))
+      (own-listed-fewer s p (recordsPlace s 1) (recordsPlace s 2) (recordCount s 1))
 
   module _ (l : Layout) (el : l ≡ layoutOf s) where
     pub near-at : Near (l .points + 11 * p) (l .bins) (l .ranges) (l .«bin_count») (l .transitions) (l .«transition_count»)
@@ -279,7 +290,11 @@ module _ (s : List ℕ) (ok : accepted s ≡ true) (p : ℕ) (inside : p < point
     unfolding layoutOf
     fits-at = subst (λ (x : Layout). Fits s (lowest (pointRecord s (x .points + 11 * p))) p (x .bins) (x .ranges) (x .«bin_count»)) (sym el) fits-raw
 
-    pub room-at : (x y : List ℕ) → 5125 ≤ length x → 1539 ≤ length y → Room s (lowest (pointRecord s (l .points + 11 * p))) p (l .bins) (l .ranges) (l .«bin_count») x y
+    pub listed-at : ownListed s p (l .bins) (l .«bin_count») ≤ rangesListed T p
+    unfolding layoutOf
+    listed-at = subst (λ (x : Layout). ownListed s p (x .bins) (x .«bin_count») ≤ rangesListed T p) (sym el) listed-raw
+
+    pub room-at : (x y : List ℕ) → 5 * (rangesListed T p + 1) ≤ length x → 3 * (length (T .valueBins) + 1) ≤ length y → Room s (lowest (pointRecord s (l .points + 11 * p))) p (l .bins) (l .ranges) (l .«bin_count») x y
     unfolding layoutOf
     room-at x y hx hy = subst (λ (z : Layout). Room s (lowest (pointRecord s (z .points + 11 * p))) p (z .bins) (z .ranges) (z .«bin_count») x y) (sym el) (room-raw x y hx hy)
 

@@ -32,7 +32,7 @@ use Rattle.parts.specs.Rows.{Row}
 use Rattle.parts.specs.Point.{RowsOf}
 use Rattle.pieces.specs.Pieces.{Piece, piece, pieceAt, piecesAt, PiecesOf}
 use Rattle.pieces.specs.Cuts.{allPieces, rangeWords, pieceWords, Cuttable}
-use Rattle.pieces.specs.Plan.{segment, PointPlan}
+use Rattle.pieces.specs.Plan.{segment, PointPlan, pointNeed}
 use Rattle.pieces.proofs.WordLaws.{words-length}
 use Rattle.pieces.proofs.PointPieces.{rows-cuttable, pieces-of, pieces-few}
 use Rattle.pieces.proofs.PlanLaws.{pieces-same}
@@ -96,15 +96,15 @@ plan-kept t p w w′ from mid to c o h el e =
 -- ---- written: the spans from `at` on, and then the pieces
 
 module _ (t : Table) (p m : ℕ) (rs : List Row) (rowsOf : RowsOf t p rs m) (few : m ≤ 256) (ws : List ℕ) (o : SpansOf t p ws) (short : length ws ≤ rangesListed t p) (low : ℕ) (el : low ≡ lowest (pointAt t p)) (at : ℕ) (l : List ℕ)
-    (room : at + 4 * rangesListed t p + 771 ≤ length l) where
+    (room : at + pointNeed t p ≤ length l) where
   abbrev qs : List Piece
   qs = allPieces (freeValue ws low) rs
 
   pub rows-ready : highest (pointAt t p) < 2 ^ 33 → All (Cuttable low) rs
   rows-ready h = subst (λ (x : ℕ). All (Cuttable x) rs) (sym el) (rows-cuttable t p m rs rowsOf (omega arith) h)
 
-  pieces-number : length qs ≤ rangesListed t p + 257
-  pieces-number = omega (arith, pieces-few t p m (freeValue ws low) rs rowsOf, rowsOf .few)
+  pieces-number : length qs ≤ rangesListed t p + 1 + length (covers t p)
+  pieces-number = omega (arith, pieces-few t p m (freeValue ws low) rs rowsOf, rowsOf .few, rowsOf .parts)
 
   module _ (mid : ℕ) (l₁ : List ℕ) (em : mid ≡ at + length ws) (e₁ : l₁ ≡ put at ws l) where
     long₁ : length l₁ ≡ length l
@@ -145,7 +145,7 @@ module _ (t : Table) (p m : ℕ) (rs : List Row) (rowsOf : RowsOf t p rs m) (few
           ap (take at) (e₂ ∙ ap₂ (λ (a : ℕ) (x : List ℕ). put a (pieceWords qs) x) em e₁ ∙ put-next at (length ws) ws (pieceWords qs) l refl (omega arith))
           ∙ take-put at (ws ++ pieceWords qs) l (omega arith)
 
-      pub ends-few : end ≤ at + 4 * rangesListed t p + 771
+      pub ends-few : end ≤ at + pointNeed t p
       ends-few = omega (arith, pieces-number)
 
 -- ---- words copied
@@ -160,14 +160,20 @@ copy-turn at i words l whole h k e =
 pub copy-end : (at i : ℕ) (words l whole : List ℕ) → length words ≤ i → put (at + i) (drop i words) l ≡ whole → l ≡ whole
 copy-end at i words l whole h e = sym (ap (λ (xs : List ℕ). put (at + i) xs l) (drop-of-length-le words h) ∙ put-nil (at + i) l) ∙ e
 
--- ---- a point's spans, by the layout
+-- ---- by the layout
+
+pub counts-at : (s : List ℕ) (l : Layout) → l ≡ layoutOf s → (l .«range_count» ≡ recordCount s 2) × (l .«bin_count» ≡ recordCount s 1)
+unfolding layoutOf
+counts-at s l el = (ap (λ (x : Layout). x .«range_count») el, ap (λ (x : Layout). x .«bin_count») el)
+
+-- a point's spans
 
 module _ (s : List ℕ) (ok : accepted s ≡ true) (p : ℕ) (l : Layout) (el : l ≡ layoutOf s) (low : ℕ) (e : low ≡ lowest (pointAt (tableOf s) p)) where
-  pub collectable : (room : ℕ) → 1024 ≤ room → Collectable s (l .bins) (l .ranges) (l .«bin_count») p low room
+  pub collectable : (room : ℕ) → rangesListed (tableOf s) p ≤ room → Collectable s (l .bins) (l .ranges) (l .«bin_count») p low room
   unfolding layoutOf
   collectable room h =
       subst (λ (x : Layout). Collectable s (x .bins) (x .ranges) (x .«bin_count») p low room) (sym el)
-      (subst (λ (y : ℕ). Collectable s (recordsPlace s 1) (recordsPlace s 2) (recordCount s 1) p y room) (sym e) (accepted-collectable s ok p room h))
+      (subst (λ (y : ℕ). Collectable s (recordsPlace s 1) (recordsPlace s 2) (recordCount s 1) p y room) (sym e) (accepted-collectable s ok p room (omega (arith, excluded-listed s ok p))))
 
   pub settled-spans : (ws : List ℕ) → Settled (wordsFrom low (excludedAt s (l .bins) (l .ranges) (l .«bin_count») p)) ws → SpansOf (tableOf s) p ws
   unfolding layoutOf

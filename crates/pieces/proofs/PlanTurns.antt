@@ -2,7 +2,7 @@
 -- Assumes nothing.
 use mathlib.Core.Path.{_≡_, refl, sym, ap, ap₂, _∙_}
 use mathlib.Core.Bool.{Bool, true, false}
-use mathlib.Core.List.{List, [], _∷_, map}
+use mathlib.Core.List.{List, [], _∷_}
 use Prim.Native.Nat.{ℕ, zero, suc, _+_, _-_, _*_, _≤_, _<_}
 use native.Mathlib.Omega.{arith}
 use lib.Dec.{ltb}
@@ -12,36 +12,60 @@ use borrow.Author.Tests.{ltb-true, ltb-false}
 use Rattle.model.specs.Lists.{sumOf, upFrom}
 use Rattle.model.specs.Table.{Table}
 use Rattle.model.specs.Format.{accepted, tableOf}
+use Rattle.model.specs.Raw.{recordCount}
 use Rattle.model.specs.Register.{pointTotal}
+use Rattle.model.proofs.Lists.{from-step, length-upFrom}
 use Rattle.model.proofs.RawExact.{few-points}
-use Rattle.arrays.specs.Put.{put}
-use Rattle.arrays.specs.Flat.{covers, coverCounts}
+use Rattle.arrays.specs.Flat.{covers}
 use Rattle.spans.specs.Point.{rangesListed}
-use Rattle.spans.proofs.Point.{ranges-few}
-use Rattle.pieces.specs.Plan.{PointPlan, ValuesPlan}
+use Rattle.spans.proofs.Point.{ranges-listed, ranges-most}
+use Rattle.pieces.specs.Plan.{PointPlan, ValuesPlan, pointNeed, planNeed}
+use Rattle.pieces.proofs.PlanLaws.{few-covers}
 use Rattle.pieces.proofs.BuildLaws.{plan-kept}
 
 -- ---- room
 
--- how many ranges the first n points list
-unfoldable pub listedBefore : Table → ℕ → ℕ
-listedBefore t n = sumOf (rangesListed t) (upFrom 0 n)
+-- what n points from p on need
+unfoldable pub needFrom : Table → ℕ → ℕ → ℕ
+needFrom t p n = sumOf (pointNeed t) (upFrom p n)
 
-sum-next : (f : ℕ → ℕ) (i n : ℕ) → sumOf f (upFrom i (suc n)) ≡ sumOf f (upFrom i n) + f (i + n)
-unfolding sumOf upFrom
-sum-next f i zero = let z : i ≡ i + 0 = omega arith in ap (λ (x : ℕ). f x + 0) z ∙ omega arith
-sum-next f i (suc n) = let z : suc i + n ≡ i + suc n = omega arith in ap (f i +_) (sum-next f (suc i) n) ∙ ap (λ (x : ℕ). f i + (sumOf f (upFrom (suc i) n) + f x)) z ∙ omega arith
+pub need-start : (t : Table) (n : ℕ) → n ≡ pointTotal t → 0 + needFrom t 0 (n - 0) ≤ planNeed t
+unfolding needFrom planNeed
+need-start t n e = omega (arith, ap (λ (m : ℕ). sumOf (pointNeed t) (upFrom 0 m)) (let z : n - 0 ≡ pointTotal t = omega arith in z))
 
-pub listed-next : (t : Table) (p : ℕ) → listedBefore t (p + 1) ≡ listedBefore t p + rangesListed t p
-unfolding listedBefore
-listed-next t p =
-    ap (λ (n : ℕ). sumOf (rangesListed t) (upFrom 0 n)) (let z : p + 1 ≡ suc p = omega arith in z) ∙ sum-next (rangesListed t) 0 p
-    ∙ ap (λ (x : ℕ). sumOf (rangesListed t) (upFrom 0 p) + rangesListed t x) (let z : 0 + p ≡ p = omega arith in z)
+module _ (t : Table) (n p at : ℕ) (h : p < n) (room : at + needFrom t p (n - p) ≤ planNeed t) where
+  one-more : needFrom t p (n - p) ≡ pointNeed t p + needFrom t (p + 1) (n - (p + 1))
+  unfolding needFrom
+  one-more = ap (sumOf (pointNeed t)) (from-step p n h) ∙ (unfold sumOf in refl)
 
-pub room-left : (s : List ℕ) → accepted s ≡ true → (p at : ℕ) → p < pointTotal (tableOf s) → at ≤ 4 * listedBefore (tableOf s) p + 771 * p → at + 4 * rangesListed (tableOf s) p + 771 ≤ 16432
-room-left s ok p at h k =
-    let few : listedBefore (tableOf s) (p + 1) ≤ 1024 = unfold listedBefore in (ranges-few s ok (p + 1)) in
-    omega (arith, listed-next (tableOf s) p, few-points s ok)
+  pub need-here : at + pointNeed t p ≤ planNeed t
+  need-here = omega (arith, one-more)
+
+  pub need-next : (end : ℕ) → end ≤ at + pointNeed t p → end + needFrom t (p + 1) (n - (p + 1)) ≤ planNeed t
+  need-next end e = omega (arith, one-more)
+
+sum-need : (t : Table) (ps : List ℕ) → sumOf (pointNeed t) ps ≡ 4 * sumOf (rangesListed t) ps + 3 * sumOf (λ p. length (covers t p)) ps + 3 * length ps
+unfolding sumOf
+sum-need t [] = refl
+sum-need t (p ∷ ps) = omega (arith, sum-need t ps)
+
+module _ (s : List ℕ) (ok : accepted s ≡ true) where
+  pub plan-fits : planNeed (tableOf s) ≤ 4 * recordCount s 2 + 3 * sumOf (λ p. length (covers (tableOf s) p)) (upFrom 0 (pointTotal (tableOf s))) + 3 * pointTotal (tableOf s)
+  unfolding planNeed
+  plan-fits = omega (arith, sum-need (tableOf s) (upFrom 0 (pointTotal (tableOf s))), ranges-listed s ok (pointTotal (tableOf s)), length-upFrom 0 (pointTotal (tableOf s)))
+
+  covers-most : (n i : ℕ) → i + n ≤ pointTotal (tableOf s) → sumOf (λ p. length (covers (tableOf s) p)) (upFrom i n) ≤ 256 * n
+  unfolding sumOf upFrom
+  covers-most zero i h = omega arith
+  covers-most (suc n) i h = omega (arith, few-covers s ok i (omega arith), covers-most n (suc i) (omega arith))
+
+  pub plan-need : planNeed (tableOf s) ≤ 16432
+  plan-need = omega (arith, plan-fits, ranges-most s ok, covers-most (pointTotal (tableOf s)) 0 (omega arith), few-points s ok)
+
+  -- at point p
+  pub turn-room : (n p at : ℕ) → n ≡ pointTotal (tableOf s) → p < n → at + needFrom (tableOf s) p (n - p) ≤ planNeed (tableOf s)
+      → (p < pointTotal (tableOf s)) × (p < 16) × (at + pointNeed (tableOf s) p ≤ planNeed (tableOf s)) × (planNeed (tableOf s) ≤ 16432)
+  turn-room n p at e h room = (omega arith, omega (arith, few-points s ok), need-here (tableOf s) n p at h room, plan-need)
 
 -- ---- the first n points are planned, below c
 
@@ -84,12 +108,3 @@ next-start p bounds mid end fit =
 pub all-planned : (t : Table) (n : ℕ) (w bounds : List ℕ) (c : ℕ) → PlannedTo t n w bounds c → n ≡ pointTotal t → ValuesPlan t w bounds
 unfolding ValuesPlan
 all-planned t n w bounds c o e p h = o p (omega arith) .0
-
--- ---- how many parts each point has
-
-abbrev pub partsOf : Table → ℕ → ℕ
-partsOf t q = length (covers t q)
-
-pub counts-start : (t : Table) (n : ℕ) (l : List ℕ) → n ≡ pointTotal t → put 0 (map (partsOf t) (upFrom 0 (n - 0))) l ≡ put 0 (coverCounts t) l
-unfolding coverCounts
-counts-start t n l e = ap (λ (m : ℕ). put 0 (map (partsOf t) (upFrom 0 m)) l) (let z : n - 0 ≡ pointTotal t = omega arith in z)

@@ -12,17 +12,17 @@ ghost use mathlib.Core.Bool.{true};
 ghost use Prim.Native.Nat.{_<_, _≤_, _+_, _*_};
 ghost use lib.ListN.{length, take};
 ghost use Rattle.model.specs.Format.{accepted, tableOf};
+ghost use Rattle.model.specs.Raw.{recordCount};
 ghost use Rattle.model.specs.Register.{pointTotal};
 ghost use Rattle.arrays.specs.Put.{put};
-ghost use Rattle.arrays.specs.Flat.{covers, coverCounts};
 ghost use Rattle.spans.specs.Point.{SpansOf, rangesListed};
 ghost use Rattle.parts.specs.Words.{rowsAt};
 ghost use Rattle.parts.specs.Point.{RowsOf};
-ghost use Rattle.pieces.specs.Plan.{PointPlan, ValuesPlan};
+ghost use Rattle.pieces.specs.Plan.{PointPlan, ValuesPlan, pointNeed, planNeed};
 
 // The excluded spans of point p, from the start of out. Answers how many.
 fn put_excluded(out: &mut [u64], room: &mut [u64], t: &[u8], p: usize) -> usize
-    requires { ⌜ (accepted (now t) ≡ true) × (p < pointTotal (tableOf (now t))) × (1024 ≤ length (now room)) × (length (now room) ≤ length (now out)) ⌝ }
+    requires { ⌜ (accepted (now t) ≡ true) × (p < pointTotal (tableOf (now t))) × (rangesListed (tableOf (now t)) p ≤ length (now room)) × (length (now room) ≤ length (now out)) ⌝ }
     ensures { λ r. ⌜ SpansOf (tableOf (now (t .entry))) p (take r (now (out .exit))) × (r ≤ rangesListed (tableOf (now (t .entry))) p) × (r ≤ length (now (out .entry))) ⌝ }
 {
     let l = layout_of(t);
@@ -55,69 +55,137 @@ pub struct Ends {
     pub end: usize,
 }
 
-// The plan of point p, from at on, by its rows.
+// A point, and where its plan begins.
+pub struct Next {
+    pub point: usize,
+    pub at: usize,
+}
+
+// The plan of a point, by its rows and its excluded spans.
 fn put_by_rows(
     plan: &mut [u64],
-    at: usize,
     w: &[u64],
     bins: &[u64],
     b: Built,
+    spans: &[u64],
     t: &[u8],
-    p: usize,
+    next: Next,
 ) -> Ends
-    requires { ⌜ (accepted (now t) ≡ true) × (p < pointTotal (tableOf (now t))) × RowsOf (tableOf (now t)) p (rowsAt (now w) (now bins) 0 (b .rows)) (b .parts) × (b .rows ≤ 1025) × (b .parts ≤ 256) ⌝ }
-    requires { ⌜ at + 4 * rangesListed (tableOf (now t)) p + 771 ≤ length (now plan) ⌝ }
-    ensures { λ r. ⌜ PointPlan (tableOf (now (t .entry))) p (now (plan .exit)) at (r .mid) (r .end) × (take at (now (plan .exit)) ≡ take at (now (plan .entry))) × (r .end ≤ at + 4 * rangesListed (tableOf (now (t .entry))) p + 771) ⌝ }
+    requires { ⌜ (accepted (now t) ≡ true) × (next .point < pointTotal (tableOf (now t))) × RowsOf (tableOf (now t)) (next .point) (rowsAt (now w) (now bins) 0 (b .rows)) (b .parts) × (b .rows ≤ 1025) × (b .parts ≤ 256) ⌝ }
+    requires { ⌜ SpansOf (tableOf (now t)) (next .point) (now spans) × (length (now spans) ≤ rangesListed (tableOf (now t)) (next .point)) × (next .at + pointNeed (tableOf (now t)) (next .point) ≤ length (now plan)) ⌝ }
+    ensures { λ r. ⌜ PointPlan (tableOf (now (t .entry))) (next .point) (now (plan .exit)) (next .at) (r .mid) (r .end) × (take (next .at) (now (plan .exit)) ≡ take (next .at) (now (plan .entry))) × (r .end ≤ next .at + pointNeed (tableOf (now (t .entry))) (next .point)) ⌝ }
 {
-    let mut spans = [0u64; 1024];
-    let mut room = [0u64; 1024];
-    let k = put_excluded(&mut spans, &mut room, t, p);
-    let q = limits_of(t, p);
-    let mid = put_words(plan, at, &spans[..k]);
-    let end = put_pieces(plan, mid, w, bins, b.rows, &spans[..k], q.low);
+    let q = limits_of(t, next.point);
+    let mid = put_words(plan, next.at, spans);
+    let end = put_pieces(plan, mid, w, bins, b.rows, spans, q.low);
     Ends { mid: mid, end: end }
 }
 
-// A point's plan: where its pieces begin and end, and how many parts it has.
-pub struct Planned {
-    pub mid: usize,
-    pub end: usize,
-    pub parts: u64,
-}
-
-// The plan of point p, from at on.
-fn put_point(plan: &mut [u64], at: usize, t: &[u8], p: usize) -> Planned
-    requires { ⌜ (accepted (now t) ≡ true) × (p < pointTotal (tableOf (now t))) × (at + 4 * rangesListed (tableOf (now t)) p + 771 ≤ length (now plan)) ⌝ }
-    ensures { λ r. ⌜ PointPlan (tableOf (now (t .entry))) p (now (plan .exit)) at (r .mid) (r .end) × (take at (now (plan .exit)) ≡ take at (now (plan .entry))) × (r .end ≤ at + 4 * rangesListed (tableOf (now (t .entry))) p + 771) × (r .parts ≡ length (covers (tableOf (now (t .entry))) p)) × (r .parts ≤ 256) ⌝ }
+// The plan of a point. The other arrays are room for its rows and spans.
+fn put_point(
+    plan: &mut [u64],
+    w: &mut [u64],
+    bins: &mut [u64],
+    room: &mut [u64],
+    sorted: &mut [u64],
+    t: &[u8],
+    next: Next,
+) -> Ends
+    requires { ⌜ (accepted (now t) ≡ true) × (next .point < pointTotal (tableOf (now t))) × (next .at + pointNeed (tableOf (now t)) (next .point) ≤ length (now plan)) ⌝ }
+    requires { ⌜ (5 * (rangesListed (tableOf (now t)) (next .point) + 1) ≤ length (now w)) × (3 * (length (tableOf (now t) .valueBins) + 1) ≤ length (now bins)) × (rangesListed (tableOf (now t)) (next .point) ≤ length (now room)) × (length (now room) ≤ length (now sorted)) ⌝ }
+    ensures { λ r. ⌜ PointPlan (tableOf (now (t .entry))) (next .point) (now (plan .exit)) (next .at) (r .mid) (r .end) × (take (next .at) (now (plan .exit)) ≡ take (next .at) (now (plan .entry))) × (r .end ≤ next .at + pointNeed (tableOf (now (t .entry))) (next .point)) ⌝ }
 {
-    let mut w = [0u64; 5125];
-    let mut bins = [0u64; 1539];
-    let mut room = [0u64; 1024];
-    let mut sorted = [0u64; 1024];
-    let b = put_rows(&mut w, &mut bins, &mut room, &mut sorted, t, p);
-    let e = put_by_rows(plan, at, &w, &bins, b, t, p);
-    Planned {
-        mid: e.mid,
-        end: e.end,
-        parts: b.parts,
-    }
+    let p = next.point;
+    let b = put_rows(w, bins, room, sorted, t, p);
+    let k = put_excluded(sorted, room, t, p);
+    put_by_rows(plan, w, bins, b, &sorted[..k], t, next)
 }
 
-// The plan of all points: the words of point p from bound 2 p on, its pieces from bound 2 p + 1 to bound 2 p + 2; and how many parts each point has.
-pub fn put_plan(plan: &mut [u64], bounds: &mut [u16], counts: &mut [u16], t: &[u8])
-    requires { ⌜ (accepted (now t) ≡ true) × (16432 ≤ length (now plan)) × (33 ≤ length (now bounds)) × (16 ≤ length (now counts)) ⌝ }
-    ensures { λ _. ⌜ ValuesPlan (tableOf (now (t .entry))) (now (plan .exit)) (now (bounds .exit)) × (now (counts .exit) ≡ put 0 (coverCounts (tableOf (now (t .entry)))) (now (counts .entry))) × (length (now (plan .exit)) ≡ length (now (plan .entry))) × (length (now (bounds .exit)) ≡ length (now (bounds .entry))) ⌝ }
+// The plan of all points. The other arrays are room for a point's rows and spans.
+fn put_all(
+    plan: &mut [u64],
+    bounds: &mut [u16],
+    w: &mut [u64],
+    bins: &mut [u64],
+    room: &mut [u64],
+    sorted: &mut [u64],
+    t: &[u8],
+)
+    requires { ⌜ (accepted (now t) ≡ true) × (planNeed (tableOf (now t)) ≤ length (now plan)) × (33 ≤ length (now bounds)) ⌝ }
+    requires { ⌜ (5 * (recordCount (now t) 2 + 1) ≤ length (now w)) × (3 * (recordCount (now t) 1 + 1) ≤ length (now bins)) × (recordCount (now t) 2 ≤ length (now room)) × (length (now room) ≤ length (now sorted)) ⌝ }
+    ensures { λ _. ⌜ ValuesPlan (tableOf (now (t .entry))) (now (plan .exit)) (now (bounds .exit)) × (length (now (plan .exit)) ≡ length (now (plan .entry))) × (length (now (bounds .exit)) ≡ length (now (bounds .entry))) ⌝ }
 {
     let n = read2(t, 0) as usize;
     bounds[0] = 0;
     let mut at = 0;
     let mut p = 0;
     while p < n {
-        let r = put_point(plan, at, t, p);
+        let next = Next { point: p, at: at };
+        let r = put_point(plan, w, bins, room, sorted, t, next);
         bounds[2 * p + 1] = r.mid as u16;
         bounds[2 * p + 2] = r.end as u16;
-        counts[p] = r.parts as u16;
         at = r.end;
         p += 1;
     }
+}
+
+// The same for a table of at most 64 ranges and 64 value bins.
+fn put_small(plan: &mut [u64], bounds: &mut [u16], t: &[u8])
+    requires { ⌜ (accepted (now t) ≡ true) × (planNeed (tableOf (now t)) ≤ length (now plan)) × (33 ≤ length (now bounds)) × (recordCount (now t) 2 ≤ 64) × (recordCount (now t) 1 ≤ 64) ⌝ }
+    ensures { λ _. ⌜ ValuesPlan (tableOf (now (t .entry))) (now (plan .exit)) (now (bounds .exit)) × (length (now (plan .exit)) ≡ length (now (plan .entry))) × (length (now (bounds .exit)) ≡ length (now (bounds .entry))) ⌝ }
+{
+    let mut w = [0u64; 325];
+    let mut bins = [0u64; 195];
+    let mut room = [0u64; 64];
+    let mut sorted = [0u64; 64];
+    put_all(plan, bounds, &mut w, &mut bins, &mut room, &mut sorted, t);
+}
+
+// The same for a table of at most 256 ranges and 256 value bins.
+fn put_medium(plan: &mut [u64], bounds: &mut [u16], t: &[u8])
+    requires { ⌜ (accepted (now t) ≡ true) × (planNeed (tableOf (now t)) ≤ length (now plan)) × (33 ≤ length (now bounds)) × (recordCount (now t) 2 ≤ 256) × (recordCount (now t) 1 ≤ 256) ⌝ }
+    ensures { λ _. ⌜ ValuesPlan (tableOf (now (t .entry))) (now (plan .exit)) (now (bounds .exit)) × (length (now (plan .exit)) ≡ length (now (plan .entry))) × (length (now (bounds .exit)) ≡ length (now (bounds .entry))) ⌝ }
+{
+    let mut w = [0u64; 1285];
+    let mut bins = [0u64; 771];
+    let mut room = [0u64; 256];
+    let mut sorted = [0u64; 256];
+    put_all(plan, bounds, &mut w, &mut bins, &mut room, &mut sorted, t);
+}
+
+// The same for the largest table.
+fn put_largest(plan: &mut [u64], bounds: &mut [u16], t: &[u8])
+    requires { ⌜ (accepted (now t) ≡ true) × (planNeed (tableOf (now t)) ≤ length (now plan)) × (33 ≤ length (now bounds)) × (recordCount (now t) 2 ≤ 1024) × (recordCount (now t) 1 ≤ 512) ⌝ }
+    ensures { λ _. ⌜ ValuesPlan (tableOf (now (t .entry))) (now (plan .exit)) (now (bounds .exit)) × (length (now (plan .exit)) ≡ length (now (plan .entry))) × (length (now (bounds .exit)) ≡ length (now (bounds .entry))) ⌝ }
+{
+    let mut w = [0u64; 5125];
+    let mut bins = [0u64; 1539];
+    let mut room = [0u64; 1024];
+    let mut sorted = [0u64; 1024];
+    put_all(plan, bounds, &mut w, &mut bins, &mut room, &mut sorted, t);
+}
+
+// The larger of two numbers.
+fn larger(a: usize, b: usize) -> usize
+    ensures { λ r. ⌜ (a ≤ r) × (b ≤ r) ⌝ }
+{
+    if a < b { b } else { a }
+}
+
+// The plan of all points: the words of point p from bound 2 p on, its pieces from bound 2 p + 1 to bound 2 p + 2.
+pub fn put_plan(plan: &mut [u64], bounds: &mut [u16], t: &[u8])
+    requires { ⌜ (accepted (now t) ≡ true) × (planNeed (tableOf (now t)) ≤ length (now plan)) × (33 ≤ length (now bounds)) ⌝ }
+    ensures { λ _. ⌜ ValuesPlan (tableOf (now (t .entry))) (now (plan .exit)) (now (bounds .exit)) × (length (now (plan .exit)) ≡ length (now (plan .entry))) × (length (now (bounds .exit)) ≡ length (now (bounds .entry))) ⌝ }
+{
+    let l = layout_of(t);
+    let n = larger(l.range_count, l.bin_count);
+    if n <= 64 {
+        put_small(plan, bounds, t);
+        return;
+    }
+    if n <= 256 {
+        put_medium(plan, bounds, t);
+        return;
+    }
+    put_largest(plan, bounds, t);
 }

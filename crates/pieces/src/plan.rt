@@ -71,7 +71,7 @@ pub fn put_meets(out: &mut [u8], at: usize, t: &[u8], plan: &[u64], bounds: &[u1
 // For each part of point p: whether it still holds a value.
 fn put_has_at(out: &mut [u8], t: &[u8], plan: &[u64], bounds: &[u16], p: usize, parts: usize)
     requires { ⌜ (accepted (now t) ≡ true) × (p < pointTotal (tableOf (now t))) × ValuesPlan (tableOf (now t)) (now plan) (now bounds) ⌝ }
-    requires { ⌜ (parts ≡ length (covers (tableOf (now t)) p)) × (4096 ≤ length (now out)) ⌝ }
+    requires { ⌜ (parts ≡ length (covers (tableOf (now t)) p)) × (256 * pointTotal (tableOf (now t)) ≤ length (now out)) ⌝ }
     ensures { λ _. ⌜ now (out .exit) ≡ put (256 * p) (hasBits (tableOf (now (t .entry))) p) (now (out .entry)) ⌝ }
 {
     let l = limits_of(t, p);
@@ -86,7 +86,7 @@ fn put_has_at(out: &mut [u8], t: &[u8], plan: &[u64], bounds: &[u16], p: usize, 
 
 // Whether each cover bin still holds a value. counts has the number of cover bins of each point.
 pub fn put_has(out: &mut [u8], t: &[u8], plan: &[u64], bounds: &[u16], counts: &[u16])
-    requires { ⌜ (accepted (now t) ≡ true) × ValuesPlan (tableOf (now t)) (now plan) (now bounds) × (take (pointTotal (tableOf (now t))) (now counts) ≡ coverCounts (tableOf (now t))) × (4096 ≤ length (now out)) ⌝ }
+    requires { ⌜ (accepted (now t) ≡ true) × ValuesPlan (tableOf (now t)) (now plan) (now bounds) × (take (pointTotal (tableOf (now t))) (now counts) ≡ coverCounts (tableOf (now t))) × (256 * pointTotal (tableOf (now t)) ≤ length (now out)) ⌝ }
     ensures { λ _. ⌜ Tells (hasValue (tableOf (now (t .entry)))) (tableOf (now (t .entry))) (now (out .exit)) × (length (now (out .exit)) ≡ length (now (out .entry))) ⌝ }
 {
     let n = read2(t, 0) as usize;

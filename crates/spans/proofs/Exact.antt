@@ -6,14 +6,14 @@ use mathlib.Core.List.{List, [], _∷_}
 use Prim.Native.Nat.{ℕ, zero, suc, _+_, _-_, _*_, _≤_, _<_}
 use native.Mathlib.Omega.{arith}
 use lib.Dec.{leb, eqb}
-use lib.ListN.{length, getD, length-append}
+use lib.ListN.{length, getD}
 use lib.Pow.{pow-mono}
 use borrow.Author.Tests.{leb-true, le-leb, eqb-true}
-use Rattle.model.specs.Lists.{all, sumOf}
+use Rattle.model.specs.Lists.{all}
 use Rattle.model.specs.Table.{Point, Kind, cover, ignore, illegal, default, Range, span, pattern, ValueBin, Table, isCover, excludes, noPoint}
 use Rattle.model.specs.Values.{lowest, highest, inType, inRanges}
 use Rattle.model.specs.Counters.{pointAt, excludedValue}
-use Rattle.model.specs.Format.{accepted, tableOf, allowsPatterns, isSingle, u16}
+use Rattle.model.specs.Format.{accepted, tableOf, allowsPatterns, isSingle}
 use Rattle.model.specs.Ranges.{rangesOf}
 use Rattle.model.specs.Raw.{countPlace, recordsPlace, recordCount, rawTable, binsAt}
 use Rattle.model.proofs.Booleans.{and-left, and-right, false-true}
@@ -22,8 +22,9 @@ use Rattle.model.proofs.Readers.{All}
 use Rattle.model.proofs.WellFormed.{Legal, GoodBin, WellFormed, layout-well-formed}
 use Rattle.model.proofs.TableExact.{point-at}
 use Rattle.model.proofs.Sections.{acceptance, accepted-decodes, accepted-layout}
-use Rattle.model.proofs.Access.{ranges-access, bins-access}
+use Rattle.model.proofs.Access.{bins-access}
 use Rattle.model.proofs.RawExact.{accepted-raw, next-place, sections-whole}
+use Rattle.model.proofs.RawValues.{length-bins}
 use Rattle.ranges.specs.Taken.{holding, takenBy, excludedAt}
 use Rattle.ranges.proofs.MemberLaws.{in-any}
 use Rattle.ranges.proofs.TakenLaws.{any-taken}
@@ -81,20 +82,6 @@ excluded-fit ps p w (b ∷ bs) h =
         ranges-fit (getD ps p noPoint) (allowsPatterns b) (ap (_&& isSingle (b .form)) (no-cover (b .kind) (and-right (eqb (b .point) p) (excludes (b .kind)) e))) w (b .ranges)
         (rw same at (h .0))
 
-fewer-ranges : (p : ℕ) (bs : List ValueBin) → length (rangesOf excludes p bs) ≤ sumOf (λ b. length (b .ranges)) bs
-unfolding rangesOf sumOf
-fewer-ranges p [] = omega arith
-fewer-ranges p (b ∷ bs) = omega (arith, length-append (cond (eqb (b .point) p && excludes (b .kind)) (b .ranges) []) (rangesOf excludes p bs), go (eqb (b .point) p && excludes (b .kind)), fewer-ranges p bs)
-  where
-    go : (c : Bool) → length (cond c (b .ranges) []) ≤ length (b .ranges)
-    go true = omega arith
-    go false = omega arith
-
-length-bins : (s : List ℕ) (b r n : ℕ) → length (binsAt s b r n) ≡ n
-unfolding binsAt
-length-bins s b r zero = refl
-length-bins s b r (suc n) = ap suc (length-bins s (b + 8) (r + 17 * u16 s (b + 6)) n)
-
 module _ (s : List ℕ) (ok : accepted s ≡ true) (p : ℕ) where
   abbrev T : Table
   T = tableOf s
@@ -116,7 +103,7 @@ module _ (s : List ℕ) (ok : accepted s ≡ true) (p : ℕ) where
   spans-fit = ap (λ (bs : List ValueBin). all (fitsFrom low) (rangesOf excludes p bs)) (sym bins-are) ∙ excluded-fit (tableOf s .points) p (point-at (tableOf s) formed p .narrow) (tableOf s .valueBins) (formed .bins)
 
   -- what `collect` and `spans_of` ask
-  pub accepted-collectable : (room : ℕ) → 1024 ≤ room → Collectable s (recordsPlace s 1) (recordsPlace s 2) (recordCount s 1) p low room
+  pub accepted-collectable : (room : ℕ) → length (excludedAt s (recordsPlace s 1) (recordsPlace s 2) (recordCount s 1) p) ≤ room → Collectable s (recordsPlace s 1) (recordsPlace s 2) (recordCount s 1) p low room
   unfolding recordsPlace
   accepted-collectable room h =
       let a = acceptance s (tableOf s) (accepted-decodes s ok) in
@@ -135,7 +122,7 @@ module _ (s : List ℕ) (ok : accepted s ≡ true) (p : ℕ) where
         near = omega arith;
         nearRanges = omega arith;
         few = omega (arith, bins-access s (tableOf s) (length s) (a .layout) .0 .high, ap length bins-are, length-bins s (recordsPlace s 1) (recordsPlace s 2) (recordCount s 1));
-        fits = omega (arith, ap (λ (bs : List ValueBin). length (rangesOf excludes p bs)) bins-are, fewer-ranges p (tableOf s .valueBins), ranges-access s (tableOf s) (length s) (a .layout) .0 .high);
+        fits = h;
         spans = spans-fit;
       }
 

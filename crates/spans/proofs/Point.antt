@@ -3,7 +3,7 @@
 use mathlib.Core.Path.{_≡_, refl, sym, ap, _∙_}
 use mathlib.Core.Bool.{Bool, true, false, _&&_, cond}
 use mathlib.Core.List.{List, [], _∷_}
-use Prim.Native.Nat.{ℕ, zero, suc, _+_, _-_, _≤_, _<_}
+use Prim.Native.Nat.{ℕ, zero, suc, _+_, _-_, _*_, _≤_, _<_}
 use native.Mathlib.Omega.{arith}
 use lib.Dec.{leb, ltb, eqb}
 use lib.ListN.{length, length-append}
@@ -12,13 +12,14 @@ use Rattle.model.specs.Lists.{sumOf, upFrom}
 use Rattle.model.specs.Table.{Range, ValueBin, Table, excludes}
 use Rattle.model.specs.Values.{lowest, highest, inType}
 use Rattle.model.specs.Counters.{pointAt, excludedValue}
-use Rattle.model.specs.Format.{accepted, tableOf}
+use Rattle.model.specs.Format.{accepted, tableOf, u16}
 use Rattle.model.specs.Ranges.{rangesOf}
-use Rattle.model.specs.Raw.{recordsPlace, recordCount}
-use Rattle.model.specs.Register.{pointTotal}
+use Rattle.model.specs.Raw.{countPlace, recordsPlace, recordCount}
 use Rattle.model.proofs.Booleans.{false-true}
-use Rattle.model.proofs.Sections.{acceptance, accepted-decodes}
-use Rattle.model.proofs.Access.{ranges-access}
+use Rattle.model.proofs.Sections.{accepted-layout}
+use Rattle.model.proofs.Access.{points-access, bins-access, ranges-access}
+use Rattle.model.proofs.RawExact.{next-place}
+use Rattle.model.proofs.RawValues.{length-bins}
 use Rattle.ranges.specs.Taken.{excludedAt}
 use Rattle.spans.specs.Spans.{heldBy, apart, free, Settled, Least}
 use Rattle.spans.specs.Collected.{wordsFrom}
@@ -101,14 +102,51 @@ unfolding sumOf
 sum-add f g [] = refl
 sum-add f g (p ∷ ps) = omega (arith, sum-add f g ps)
 
+one-listed : (p : ℕ) (bs : List ValueBin) → sumOf (λ b. cond (eqb (b .point) p) (length (b .ranges)) 0) bs ≤ sumOf (λ b. length (b .ranges)) bs
+unfolding sumOf
+one-listed p [] = omega arith
+one-listed p (b ∷ bs) = go (eqb (b .point) p) (one-listed p bs)
+  where
+    go : (c : Bool) → sumOf (λ b. cond (eqb (b .point) p) (length (b .ranges)) 0) bs ≤ sumOf (λ b. length (b .ranges)) bs
+        → cond c (length (b .ranges)) 0 + sumOf (λ b. cond (eqb (b .point) p) (length (b .ranges)) 0) bs ≤ length (b .ranges) + sumOf (λ b. length (b .ranges)) bs
+    go true h = omega arith
+    go false h = omega arith
+
 all-listed : (m : ℕ) (bs : List ValueBin) → sumOf (λ p. sumOf (λ b. cond (eqb (b .point) p) (length (b .ranges)) 0) bs) (upFrom 0 m) ≤ sumOf (λ b. length (b .ranges)) bs
 unfolding sumOf
 all-listed m [] = omega (arith, sum-none (upFrom 0 m))
 all-listed m (b ∷ bs) =
     omega (arith, sum-add (λ p. cond (eqb (b .point) p) (length (b .ranges)) 0) (λ p. sumOf (λ b. cond (eqb (b .point) p) (length (b .ranges)) 0) bs) (upFrom 0 m), once (b .point) (length (b .ranges)) 0 m, all-listed m bs)
 
-pub ranges-few : (s : List ℕ) → accepted s ≡ true → (m : ℕ) → sumOf (rangesListed (tableOf s)) (upFrom 0 m) ≤ 1024
-unfolding rangesListed
-ranges-few s ok m =
-    let a = acceptance s (tableOf s) (accepted-decodes s ok) in
-    omega (arith, all-listed m (tableOf s .valueBins), ranges-access s (tableOf s) (length s) (a .layout) .0 .high)
+-- by the counts of the table's sections
+module _ (s : List ℕ) (ok : accepted s ≡ true) where
+  pub bins-many : length (tableOf s .valueBins) ≡ recordCount s 1
+  bins-many = ap length (bins-are s ok 0) ∙ length-bins s (recordsPlace s 1) (recordsPlace s 2) (recordCount s 1)
+
+  ranges-many : sumOf (λ b. length (b .ranges)) (tableOf s .valueBins) ≡ recordCount s 2
+  unfolding recordCount
+  ranges-many =
+      let l = accepted-layout s ok in
+      let points = points-access s (tableOf s) (length s) l in
+      let bins = bins-access s (tableOf s) (length s) l in
+      let ranges = ranges-access s (tableOf s) (length s) l in
+      let start : countPlace s 0 ≡ 0 = unfold countPlace in refl in
+      let first : l .next₂ ≡ countPlace s 1 = omega (arith, points .0 .said, points .0 .begins, points .1, ap (u16 s) start, start, next-place s 0 11 refl) in
+      let second : l .next₃ ≡ countPlace s 2 = omega (arith, bins .0 .said, bins .0 .begins, bins .1, ap (u16 s) first, first, next-place s 1 8 refl) in
+      sym (ap (u16 s) (sym second) ∙ ranges .0 .said)
+
+  pub bins-most : recordCount s 1 ≤ 512
+  bins-most = omega (arith, bins-many, bins-access s (tableOf s) (length s) (accepted-layout s ok) .0 .high)
+
+  pub ranges-most : recordCount s 2 ≤ 1024
+  ranges-most = omega (arith, ranges-many, ranges-access s (tableOf s) (length s) (accepted-layout s ok) .0 .high)
+
+  -- the first m points
+  pub ranges-listed : (m : ℕ) → sumOf (rangesListed (tableOf s)) (upFrom 0 m) ≤ recordCount s 2
+  unfolding rangesListed
+  ranges-listed m = omega (arith, all-listed m (tableOf s .valueBins), ranges-many)
+
+  -- one point
+  pub point-listed : (p : ℕ) → rangesListed (tableOf s) p ≤ recordCount s 2
+  unfolding rangesListed
+  point-listed p = omega (arith, one-listed p (tableOf s .valueBins), ranges-many)

@@ -1,5 +1,5 @@
 use native.Mathlib.Omega.{arith}
-use Rattle.parts.proofs.OwnLaws.{own-fit, own-counts}
+use Rattle.parts.proofs.OwnLaws.{own-fit, own-listed, own-counts}
 use borrow.Author.Needs.{needs}
 use Rattle.parts.proofs.built.own_count.Statement.{statement}
 use Rattle.parts.proofs.built.own_count.Tie as tie
@@ -8,7 +8,7 @@ bin-count-requires : tie.Need-bin-count-requires
 bin-count-requires c κs =
     let g = c .before .before .before .before .before .before in
     let a = g .args in
-    (omega arith, omega arith, omega arith, omega arith, own-fit (a .t .now) (a .b .low) (a .b .at) (a .b .ranges) 0 (a .own) (c .before .before .if1 .taken) (g .pre .4))
+    (omega arith, omega arith, own-listed (a .t .now) (a .b .low) (a .b .at) (a .b .ranges) 0 (a .own) _ (c .before .before .if1 .taken) (g .pre .2), omega arith, own-fit (a .t .now) (a .b .low) (a .b .at) (a .b .ranges) 0 (a .own) (c .before .before .if1 .taken) (g .pre .4))
 
 same-length : tie.Need-same-length
 same-length c = search needs

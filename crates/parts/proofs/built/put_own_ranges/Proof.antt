@@ -1,7 +1,8 @@
 use Prim.Native.Nat.{_≤_}
 use native.Mathlib.Omega.{arith}
+use lib.ListN.{length}
 use borrow.Author.Tests.{not-true, not-false}
-use Rattle.parts.proofs.OwnLaws.{own-fit, ranges-off, spans-fit-at, spans-ready, spans-room, spans-on, listed-light, listed-room, listed-on, part-length}
+use Rattle.parts.proofs.OwnLaws.{own-fit, own-listed, ranges-off, spans-fit-at, spans-ready, spans-room, spans-on, listed-light, listed-room, listed-on, part-length}
 use borrow.Author.Needs.{needs}
 use Rattle.parts.proofs.built.put_own_ranges.Statement.{statement}
 use Rattle.parts.proofs.built.put_own_ranges.Tie as tie
@@ -33,7 +34,8 @@ settle-spans-requires c κs =
     let a = g .args in
     let yes = not-false (a .own) (c .before .before .before .before .before .if1 .left) in
     let fit = own-fit (a .t .now) (a .b .low) (a .b .at) (a .b .ranges) 0 (a .own) yes (g .pre .0 .3) in
-    (omega arith, omega (arith, c .before .before .before .read2 .ensures, fit .some), omega (arith, c .before .before .before .read2 .ensures, fit .some), omega arith, spans-fit-at (a .t .now) (a .b .low) (a .b .at) (a .b .ranges) (c .before .before .before .before .byte .result) (c .before .before .before .read2 .result) (a .own) yes (c .before .before .before .before .byte .ensures) (c .before .before .before .read2 .ensures) (c .before .before .if2 .taken) fit)
+    let some = own-listed (a .t .now) (a .b .low) (a .b .at) (a .b .ranges) 0 (a .own) _ yes (g .pre .1 .1) in
+    (omega arith, omega (arith, c .before .before .before .read2 .ensures, fit .some), omega (arith, c .before .before .before .read2 .ensures, some), omega arith, spans-fit-at (a .t .now) (a .b .low) (a .b .at) (a .b .ranges) (c .before .before .before .before .byte .result) (c .before .before .before .read2 .result) (a .own) yes (c .before .before .before .before .byte .ensures) (c .before .before .before .read2 .ensures) (c .before .before .if2 .taken) fit)
 
 slice-reshare-prefix-put-spans : tie.Need-slice-reshare-prefix-put-spans
 slice-reshare-prefix-put-spans c =
@@ -41,8 +43,9 @@ slice-reshare-prefix-put-spans c =
     let a = g .args in
     let yes = not-false (a .own) (c .before .before .before .before .before .before .before .before .before .before .before .if1 .left) in
     let fit = own-fit (a .t .now) (a .b .low) (a .b .at) (a .b .ranges) 0 (a .own) yes (g .pre .0 .3) in
-    let few : c .before .before .before .before .before .settle-spans .result ≤ 1024 = omega (arith, c .before .before .before .before .before .settle-spans .ensures .0, c .before .before .before .before .before .before .before .before .before .read2 .ensures, fit .some) in
-    omega arith
+    let some = own-listed (a .t .now) (a .b .low) (a .b .at) (a .b .ranges) 0 (a .own) _ yes (g .pre .1 .1) in
+    let few : c .before .before .before .before .before .settle-spans .result ≤ length (a .room .now) = omega (arith, c .before .before .before .before .before .settle-spans .ensures .0, c .before .before .before .before .before .before .before .before .before .read2 .ensures, some) in
+    omega (arith, g .pre .1 .2)
 
 slice-aggregate-put-spans : tie.Need-slice-aggregate-put-spans
 slice-aggregate-put-spans c =
@@ -50,8 +53,9 @@ slice-aggregate-put-spans c =
     let a = g .args in
     let yes = not-false (a .own) (c .before .before .before .before .before .before .before .before .before .before .before .before .if1 .left) in
     let fit = own-fit (a .t .now) (a .b .low) (a .b .at) (a .b .ranges) 0 (a .own) yes (g .pre .0 .3) in
-    let few : c .before .before .before .before .before .before .settle-spans .result ≤ 1024 = omega (arith, c .before .before .before .before .before .before .settle-spans .ensures .0, c .before .before .before .before .before .before .before .before .before .before .read2 .ensures, fit .some) in
-    part-length _ _ (omega arith)
+    let some = own-listed (a .t .now) (a .b .low) (a .b .at) (a .b .ranges) 0 (a .own) _ yes (g .pre .1 .1) in
+    let few : c .before .before .before .before .before .before .settle-spans .result ≤ length (a .room .now) = omega (arith, c .before .before .before .before .before .before .settle-spans .ensures .0, c .before .before .before .before .before .before .before .before .before .before .read2 .ensures, some) in
+    part-length _ _ (omega (arith, g .pre .1 .2))
 
 put-spans-requires : tie.Need-put-spans-requires
 put-spans-requires c κs =

@@ -1,7 +1,7 @@
 use Prim.Native.Nat.{_<_}
 use native.Mathlib.Omega.{arith}
 use Rattle.model.proofs.RawExact.{few-points}
-use Rattle.parts.proofs.Accepted.{near-at, wide-at, auto-at, fits-at, room-at, rows-at}
+use Rattle.parts.proofs.Accepted.{near-at, wide-at, auto-at, fits-at, listed-at, room-at, rows-at}
 use borrow.Author.Needs.{needs}
 use Rattle.parts.proofs.points.put_rows.Statement.{statement}
 use Rattle.parts.proofs.points.put_rows.Tie as tie
@@ -38,7 +38,8 @@ put-point-requires c κs =
     let auto = auto-at s (g .pre .0) (a .p) (g .pre .1) (d .result) (d .ensures .0) in
     let fits = fits-at s (g .pre .0) (a .p) (g .pre .1) (d .result) (d .ensures .0) in
     let room = room-at s (g .pre .0) (a .p) (g .pre .1) (d .result) (d .ensures .0) (a .w .now) (a .bins .now) (g .pre .2) (g .pre .3) in
-    ((near, wide, auto, fits), (room, g .pre .4, g .pre .5))
+    let some = listed-at s (g .pre .0) (a .p) (g .pre .1) (d .result) (d .ensures .0) in
+    ((near, wide, auto, fits), (room, omega (arith, some, g .pre .4), g .pre .5))
 
 same-length : tie.Need-same-length
 same-length c = search needs

@@ -1,0 +1,62 @@
+use mathlib.Core.Path.{sym}
+use native.Mathlib.Omega.{arith}
+use lib.Seq.{length-take-le}
+use borrow.Author.Needs.{needs}
+use Rattle.pieces.proofs.build.put_point.Statement.{statement}
+use Rattle.pieces.proofs.build.put_point.Tie as tie
+
+put-rows-requires : tie.Need-put-rows-requires
+put-rows-requires c κs = search needs
+
+put-excluded-requires : tie.Need-put-excluded-requires
+put-excluded-requires c κs = search needs
+
+slice-reshare-prefix-put-by-rows : tie.Need-slice-reshare-prefix-put-by-rows
+slice-reshare-prefix-put-by-rows c = search needs
+
+slice-aggregate-put-by-rows : tie.Need-slice-aggregate-put-by-rows
+slice-aggregate-put-by-rows c =
+    let x = c .before .before .before .before .before .before .before .before .put-excluded in
+    sym (length-take-le (x .result) (x .last .0) (omega (arith, x .kept .0, x .ensures .2)))
+
+put-by-rows-requires : tie.Need-put-by-rows-requires
+put-by-rows-requires c κs =
+    let q = c .before .before .before .before .before .before .before .before .before .before .before .before .before .before .before .before .before .before .before .before .before .before .before .before .before .before .before .before .before .before .pre in
+    let x = c .before .before .before .before .before .before .before .before .put-excluded in
+    let r = c .before .before .before .before .before .before .before .before .before .before .before .before .before .before .before .before .before .before .before .put-rows .ensures in
+    let k = length-take-le (x .result) (x .last .0) (omega (arith, x .kept .0, x .ensures .2)) in
+    ((q .0 .0, q .0 .1, r .0, r .1, r .2), (x .ensures .0, omega (arith, k, x .ensures .1), q .0 .2))
+
+same-length : tie.Need-same-length
+same-length c = search needs
+
+same-length-2 : tie.Need-same-length-2
+same-length-2 c = search needs
+
+same-length-3 : tie.Need-same-length-3
+same-length-3 c = search needs
+
+same-length-4 : tie.Need-same-length-4
+same-length-4 c = search needs
+
+same-length-5 : tie.Need-same-length-5
+same-length-5 c = search needs
+
+returns : tie.Need-returns
+returns c = search needs
+
+pub put-point-spec : {M : Type 1} → statement M
+put-point-spec =
+    tie.close
+    (tie.spec
+    put-rows-requires
+    put-excluded-requires
+    slice-reshare-prefix-put-by-rows
+    slice-aggregate-put-by-rows
+    put-by-rows-requires
+    same-length
+    same-length-2
+    same-length-3
+    same-length-4
+    same-length-5
+    returns)
