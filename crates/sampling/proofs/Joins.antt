@@ -3,13 +3,13 @@
 use mathlib.Core.Path.{_≡_, refl, sym, ap, _∙_}
 use mathlib.Core.Bool.{true}
 use mathlib.Core.List.{List, _++_, map, map-append}
-use Prim.Native.Nat.{ℕ, suc, _+_, _*_, _≤_}
+use Prim.Native.Nat.{ℕ, zero, suc, _+_, _*_, _≤_}
 use native.Mathlib.Nat.{zero-add}
 use native.Mathlib.Numerals.{add-one}
 use native.Mathlib.Omega.{arith}
-use lib.ListN.{length, take, length-append, length-map}
+use lib.ListN.{length, getD, take, length-append, length-map}
 use lib.Seq.{take-take, take-at}
-use Rattle.model.specs.Lists.{upFrom, asBit}
+use Rattle.model.specs.Lists.{upFrom, sumOf, concatOf, asBit}
 use Rattle.model.specs.Table.{Table}
 use Rattle.model.specs.Counters.{Counter, pointCounters, counters}
 use Rattle.model.specs.Sampling.{Stretches, coverHit, hits}
@@ -19,9 +19,16 @@ use Rattle.model.specs.Register.{pointTotal, counterTotal}
 use Rattle.model.proofs.Sections.{acceptance, accepted-decodes}
 use Rattle.model.proofs.Access.{points-access}
 use Rattle.model.proofs.MeasureBounds.{counters-few}
+use Rattle.model.proofs.Limits.{covers-fewer}
+use Rattle.layout.specs.Places.{layoutOf}
+use Rattle.layout.specs.declared.Layout.{Layout}
+use Rattle.points.proofs.ItemLaws.{start-read}
+use Rattle.points.proofs.KindExact.{start-low}
+use Rattle.pieces.specs.Plan.{planNeed}
+use Rattle.pieces.proofs.PlanTurns.{plan-fits}
 use Rattle.model.proofs.Lists.{length-upFrom}
 use Rattle.arrays.specs.Put.{put}
-use Rattle.arrays.specs.Flat.{hitFlags, totalFlags, kindsOf, kindOf, itemsOf, allPointCounters, allCrossCounters, pointStart, pointStarts, Tells, coverCounts}
+use Rattle.arrays.specs.Flat.{hitFlags, totalFlags, kindsOf, kindOf, itemsOf, allPointCounters, allCrossCounters, pointStart, pointStarts, covers, Tells, coverCounts}
 use Rattle.points.specs.Gates.{Kinded, Flagged, Gathered}
 use Rattle.sampling.specs.Index.{Roomy, Labelled}
 use Rattle.arrays.proofs.PutLaws.{put-next, front-put, front-kept}
@@ -126,3 +133,24 @@ labelled-points t kinds e =
 pub labelled : (t : Table) (l kinds : List ℕ) → kinds ≡ put 0 (kindsOf (counters t)) l → length kinds ≡ length l → Labelled t kinds
 unfolding Labelled
 labelled t l kinds e k = front-kept (counterTotal t) (kindsOf (counters t)) l kinds (kinds-length (counters t)) e k .0
+
+-- ---- the words of a plan
+
+covers-within : (t : Table) (n i : ℕ) → sumOf (λ p. length (covers t p)) (upFrom i n) ≤ length (concatOf (pointCounters t) (upFrom i n))
+unfolding sumOf upFrom concatOf covers
+covers-within t zero i = omega arith
+covers-within t (suc n) i =
+    omega (arith, length-append (pointCounters t i) (concatOf (pointCounters t) (upFrom (suc i) n)), covers-fewer (pointCounters t i), covers-within t n (suc i))
+
+-- enough for the ranges of the table and the counters of its points
+pub plan-within : (s : List ℕ) → accepted s ≡ true → (l : Layout) → l ≡ layoutOf s → (starts : List ℕ) → take (pointTotal (tableOf s) + 1) starts ≡ pointStarts (tableOf s)
+    → (n : ℕ) → n ≡ pointTotal (tableOf s) → planNeed (tableOf s) ≤ 4 * l .«range_count» + 3 * (getD starts n 0 + n)
+unfolding layoutOf pointStart
+plan-within s ok l el starts e n en =
+    let t = tableOf s in
+    let read : getD starts n 0 ≡ length (concatOf (pointCounters t) (upFrom 0 (pointTotal t))) = ap (λ (i : ℕ). getD starts i 0) en ∙ start-read t starts e (pointTotal t) (omega arith) in
+    omega (arith, plan-fits s ok, covers-within t (pointTotal t) 0, read, en, ap (λ (x : Layout). x .«range_count») el)
+
+pub start-few : (s : List ℕ) → accepted s ≡ true → (starts : List ℕ) → take (pointTotal (tableOf s) + 1) starts ≡ pointStarts (tableOf s) → (n : ℕ) → n ≡ pointTotal (tableOf s) → getD starts n 0 ≤ 4096
+start-few s ok starts e n en =
+    omega (arith, ap (λ (i : ℕ). getD starts i 0) en ∙ start-read (tableOf s) starts e (pointTotal (tableOf s)) (omega arith), start-low s ok (pointTotal (tableOf s)) (omega arith), sixteen s ok)

@@ -77,8 +77,9 @@ fn plan_words(t: &[u8], x: Index) -> usize
 {
     let l = layout_of(t);
     let starts = x.starts;
-    let counters = starts[x.points] as usize;
-    4 * l.range_count + 3 * (counters + x.points)
+    let n = x.points;
+    let counters = starts[n] as usize;
+    4 * l.range_count + 3 * (counters + n)
 }
 
 // Which cover bins still hold a value, 256 bytes for each point, and the marks of the products of all crosses.
