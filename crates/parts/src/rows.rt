@@ -1,8 +1,8 @@
-// The row of a range, five words.
+// The row of a range, five words, and how a word is read.
 ghost use mathlib.Core.Path.{_≡_};
 ghost use mathlib.Core.List.{[], _∷_};
 ghost use Prim.Native.Nat.{_≤_, _+_};
-ghost use lib.ListN.{length};
+ghost use lib.ListN.{length, getD};
 ghost use Rattle.arrays.specs.Put.{put};
 
 // A span (kind 0) and its ends, or a pattern (kind 1), its bits and mask.
@@ -22,4 +22,11 @@ pub fn put_row(w: &mut [u64], at: usize, e: Ends, before: u64, bin: u64)
     w[at + 2] = e.high;
     w[at + 3] = before;
     w[at + 4] = bin;
+}
+
+// A word; 0 past the end.
+pub fn word(s: &[u64], at: usize) -> u64
+    ensures { λ r. ⌜ r ≡ getD (now (s .entry)) at 0 ⌝ }
+{
+    if at < s.len() { s[at] } else { 0 }
 }

@@ -1,7 +1,6 @@
 -- The plan of the values of a table: of each point its excluded spans and then its pieces, in one array.
 -- Assumes nothing.
 use Prim.Native.Nat.{ℕ, _+_, _*_, _-_, _/_, _≤_, _<_}
-use mathlib.Core.Path.{_≡_}
 use mathlib.Core.List.{List}
 use lib.ListN.{length, getD, take, drop}
 use Rattle.model.specs.Lists.{sumOf, upFrom}

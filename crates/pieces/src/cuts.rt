@@ -1,5 +1,5 @@
 // The pieces of a point, cut from its rows.
-use parts::raised::word;
+use parts::rows::word;
 use ranges::next::least;
 use ranges::next::less;
 use spans::lookup::free_value;

@@ -1,6 +1,6 @@
 // Which parts of a point still hold a value from lo to hi, by its pieces.
 use arrays::put_same;
-use parts::raised::word;
+use parts::rows::word;
 use ranges::next::larger;
 use ranges::next::less;
 use ranges::next::next_pattern;

@@ -3,14 +3,14 @@
 use mathlib.Core.Path.{_≡_, refl, sym, ap, _∙_}
 use mathlib.Core.Bool.{Bool, true, false, _&&_, cond}
 use mathlib.Core.List.{List, [], _∷_}
-use Prim.Native.Nat.{ℕ, zero, suc, _+_, _-_, _*_, _≤_, _<_}
+use Prim.Native.Nat.{ℕ, zero, suc, _+_, _-_, _≤_, _<_}
 use native.Mathlib.Omega.{arith}
-use lib.Dec.{leb, ltb, eqb}
+use lib.Dec.{ltb, eqb}
 use lib.ListN.{length, length-append}
-use borrow.Author.Tests.{leb-true, ltb-true, ltb-false, eqb-true}
+use borrow.Author.Tests.{ltb-true, ltb-false, eqb-true}
 use Rattle.model.specs.Lists.{sumOf, upFrom}
-use Rattle.model.specs.Table.{Range, ValueBin, Table, excludes}
-use Rattle.model.specs.Values.{lowest, highest, inType}
+use Rattle.model.specs.Table.{ValueBin, Table, excludes}
+use Rattle.model.specs.Values.{lowest, inType}
 use Rattle.model.specs.Counters.{pointAt, excludedValue}
 use Rattle.model.specs.Format.{accepted, tableOf, u16}
 use Rattle.model.specs.Ranges.{rangesOf}
@@ -21,7 +21,7 @@ use Rattle.model.proofs.Access.{points-access, bins-access, ranges-access}
 use Rattle.model.proofs.RawExact.{next-place}
 use Rattle.model.proofs.RawValues.{length-bins}
 use Rattle.ranges.specs.Taken.{excludedAt}
-use Rattle.spans.specs.Spans.{heldBy, apart, free, Settled, Least}
+use Rattle.spans.specs.Spans.{heldBy, free, Settled, Least}
 use Rattle.spans.specs.Collected.{wordsFrom}
 use Rattle.spans.specs.Point.{SpansOf, freeValue, rangesListed}
 use Rattle.spans.proofs.LookLaws.{free-least}

@@ -16,7 +16,7 @@ put-small-requires c κs =
     let q = c .before .before .before .before .before .before .before .before .pre in
     let l = c .before .before .before .before .layout-of in
     let n = counts-at (c .before .before .before .before .before .before .before .before .args .t .now) (l .result) (l .ensures .0) in
-    (q .0, q .1, q .2, omega (arith, n .0, c .before .before .before .larger .ensures .0), omega (arith, n .1, c .before .before .before .larger .ensures .1))
+    (q .0, q .1, q .2, omega (arith, n .0, c .before .before .before .larger .ensures), omega (arith, n .1, c .before .before .before .larger .ensures))
 
 same-length : tie.Need-same-length
 same-length c = search needs
@@ -32,7 +32,7 @@ put-medium-requires c κs =
     let q = c .before .before .before .before .before .before .before .before .before .pre in
     let l = c .before .before .before .before .before .layout-of in
     let n = counts-at (c .before .before .before .before .before .before .before .before .before .args .t .now) (l .result) (l .ensures .0) in
-    (q .0, q .1, q .2, omega (arith, n .0, c .before .before .before .before .larger .ensures .0), omega (arith, n .1, c .before .before .before .before .larger .ensures .1))
+    (q .0, q .1, q .2, omega (arith, n .0, c .before .before .before .before .larger .ensures), omega (arith, n .1, c .before .before .before .before .larger .ensures))
 
 same-length-3 : tie.Need-same-length-3
 same-length-3 c = search needs
