@@ -139,14 +139,7 @@ pub fn put_hits(
 
 // ---- which counters count in their item's total
 
-fn totals_in(
-    flags: &mut [u8],
-    t: &[u8],
-    kinds: &[u8],
-    has: &mut [u8],
-    marks: &mut [u16],
-    x: Index,
-)
+fn totals_in(flags: &mut [u8], t: &[u8], kinds: &[u8], has: &mut [u8], marks: &mut [u16], x: Index)
     requires { ⌜ (accepted (now t) ≡ true) × Roomy (tableOf (now t)) (length (now flags)) × Indexed (tableOf (now t)) x × Labelled (tableOf (now t)) (now kinds) × (256 * pointTotal (tableOf (now t)) ≤ length (now has)) × (markTotal (tableOf (now t)) ≤ length (now marks)) ⌝ }
     ensures { λ _. ⌜ now (flags .exit) ≡ put 0 (totalFlags (tableOf (now (t .entry))) (counters (tableOf (now (t .entry))))) (now (flags .entry)) ⌝ }
 {

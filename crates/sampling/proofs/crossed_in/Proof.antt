@@ -1,16 +1,18 @@
 use borrow.Author.Needs.{needs}
+use mathlib.Core.Path.{refl}
+use native.Mathlib.Omega.{arith}
+use Rattle.sampling.proofs.Joins.{gate-room}
 use Rattle.sampling.proofs.crossed_in.Statement.{statement}
 use Rattle.sampling.proofs.crossed_in.Tie as tie
-use Rattle.sampling.proofs.crossed_in.Reads as reads
-use Rattle.sampling.proofs.crossed_in.Lts as lts
-use Rattle.crosses.proofs.all.put_crosses.Reads as put-crosses-reads
-use Rattle.sampling.proofs.planned.put_planned.Reads as put-planned-reads
 
 slice-aggregate-put-planned : tie.Need-slice-aggregate-put-planned
 slice-aggregate-put-planned c = search needs
 
 put-planned-requires : tie.Need-put-planned-requires
-put-planned-requires c κs = ?
+put-planned-requires c κs =
+    let a = c .before .before .before .before .before .before .before .before .args in
+    let p = c .before .before .before .before .before .before .before .before .pre in
+    ((p .0, p .1), (omega (arith, gate-room (a .t .now) (p .0)), p .3))
 
 slice-aggregate-put-crosses : tie.Need-slice-aggregate-put-crosses
 slice-aggregate-put-crosses c = search needs
@@ -25,7 +27,8 @@ same-length-2 : tie.Need-same-length-2
 same-length-2 c = search needs
 
 returns : tie.Need-returns
-returns c = ?
+returns c =
+    λ e m. c .before .before .put-crosses .ensures .1 .0 refl e m
 
 pub crossed-in-spec : {M : Type 1} → statement M
 crossed-in-spec =

@@ -1,11 +1,8 @@
 use borrow.Author.Needs.{needs}
+use native.Mathlib.Omega.{arith}
+use Rattle.sampling.proofs.Joins.{gate-room}
 use Rattle.sampling.proofs.put_totals.Statement.{statement}
 use Rattle.sampling.proofs.put_totals.Tie as tie
-use Rattle.sampling.proofs.put_totals.Reads as reads
-use Rattle.sampling.proofs.put_totals.Lts as lts
-use Rattle.sampling.proofs.largest_totals.Reads as largest-totals-reads
-use Rattle.sampling.proofs.medium_totals.Reads as medium-totals-reads
-use Rattle.sampling.proofs.small_totals.Reads as small-totals-reads
 
 small-totals-requires : tie.Need-small-totals-requires
 small-totals-requires c κs = search needs
@@ -17,7 +14,10 @@ returns : tie.Need-returns
 returns c = search needs
 
 medium-totals-requires : tie.Need-medium-totals-requires
-medium-totals-requires c κs = ?
+medium-totals-requires c κs =
+    let a = c .before .before .before .before .before .before .before .before .args in
+    let p = c .before .before .before .before .before .before .before .before .pre in
+    (p .0, p .1, p .2, p .3, (gate-room (a .t .now) (p .0), omega (arith, p .2 .counters)))
 
 same-length-2 : tie.Need-same-length-2
 same-length-2 c = search needs

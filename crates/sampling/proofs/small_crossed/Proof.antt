@@ -1,15 +1,19 @@
 use borrow.Author.Needs.{needs}
+use native.Mathlib.Omega.{arith}
+use Rattle.model.specs.Format.{tableOf}
+use Rattle.crosses.proofs.MarkLaws.{marks-counters, marks-few}
+use Rattle.sampling.proofs.Joins.{all-count}
 use Rattle.sampling.proofs.small_crossed.Statement.{statement}
 use Rattle.sampling.proofs.small_crossed.Tie as tie
-use Rattle.sampling.proofs.small_crossed.Reads as reads
-use Rattle.sampling.proofs.small_crossed.Lts as lts
-use Rattle.sampling.proofs.crossed_in.Reads as crossed-in-reads
 
 slice-aggregate-crossed-in : tie.Need-slice-aggregate-crossed-in
 slice-aggregate-crossed-in c = search needs
 
 crossed-in-requires : tie.Need-crossed-in-requires
-crossed-in-requires c κs = ?
+crossed-in-requires c κs =
+    let a = c .before .before .before .before .before .before .args in
+    let p = c .before .before .before .before .before .before .pre in
+    (p .0, p .1, p .2, omega (arith, marks-counters (tableOf (a .t .now)), all-count (tableOf (a .t .now)), p .3))
 
 same-length : tie.Need-same-length
 same-length c = search needs

@@ -1,11 +1,10 @@
 use borrow.Author.Needs.{needs}
+use mathlib.Core.Path.{refl}
+use native.Mathlib.Omega.{arith}
+use Rattle.model.specs.Format.{tableOf}
+use Rattle.sampling.proofs.Joins.{all-count, labelled-points, totals-joined}
 use Rattle.sampling.proofs.totals_in.Statement.{statement}
 use Rattle.sampling.proofs.totals_in.Tie as tie
-use Rattle.sampling.proofs.totals_in.Reads as reads
-use Rattle.sampling.proofs.totals_in.Lts as lts
-use Rattle.crosses.proofs.all.put_crosses.Reads as put-crosses-reads
-use Rattle.points.proofs.spread.scatter.Reads as scatter-reads
-use Rattle.sampling.proofs.planned.put_planned.Reads as put-planned-reads
 
 put-planned-requires : tie.Need-put-planned-requires
 put-planned-requires c κs = search needs
@@ -14,7 +13,11 @@ slice-aggregate-scatter : tie.Need-slice-aggregate-scatter
 slice-aggregate-scatter c = search needs
 
 scatter-requires : tie.Need-scatter-requires
-scatter-requires c κs = ?
+scatter-requires c κs =
+    let a = c .before .before .before .before .before .before .before .before .before .before .before .before .before .before .before .before .before .args in
+    let p = c .before .before .before .before .before .before .before .before .before .before .before .before .before .before .before .before .before .pre in
+    let h = c .before .before .before .before .before .before .before .put-planned in
+    ((p .0, p .1 .0, omega (arith, p .4, h .kept .0), omega (arith, p .2 .starts-sized)), (labelled-points (tableOf (a .t .now)) (a .kinds .now) (p .3), p .2 .starts, h .ensures .0))
 
 slice-aggregate-put-crosses : tie.Need-slice-aggregate-put-crosses
 slice-aggregate-put-crosses c = search needs
@@ -23,7 +26,12 @@ slice-aggregate-put-crosses-2 : tie.Need-slice-aggregate-put-crosses-2
 slice-aggregate-put-crosses-2 c = search needs
 
 put-crosses-requires : tie.Need-put-crosses-requires
-put-crosses-requires c κs = ?
+put-crosses-requires c κs =
+    let a = c .before .before .before .before .before .before .before .before .before .before .before .before .before .before .before .before .before .before .before .before .before .before .before .before .before .args in
+    let p = c .before .before .before .before .before .before .before .before .before .before .before .before .before .before .before .before .before .before .before .before .before .before .before .before .before .pre in
+    let h = c .before .before .before .before .before .before .before .before .before .before .before .before .before .before .before .put-planned in
+    let s = c .before .before .before .before .before .before .before .scatter in
+    ((p .0, p .2 .counts, h .ensures .1), (omega (arith, p .5, h .kept .1 .0), omega (arith, all-count (tableOf (a .t .now)), p .1 .1, s .ensures .0, s .kept .0)))
 
 same-length : tie.Need-same-length
 same-length c = search needs
@@ -35,7 +43,14 @@ same-length-3 : tie.Need-same-length-3
 same-length-3 c = search needs
 
 returns : tie.Need-returns
-returns c = ?
+returns c =
+    let a = c .before .before .before .before .before .before .before .before .before .before .before .before .before .before .before .before .before .before .before .before .before .before .before .before .before .before .before .before .args in
+    let p = c .before .before .before .before .before .before .before .before .before .before .before .before .before .before .before .before .before .before .before .before .before .before .before .before .before .before .before .before .pre in
+    let h = c .before .before .before .before .before .before .before .before .before .before .before .before .before .before .before .before .before .before .put-planned in
+    let s = c .before .before .before .before .before .before .before .before .before .before .scatter in
+    let x = c .before .before .put-crosses in
+    let t = tableOf (a .t .now) in
+    totals-joined t _ (s .ensures .0) (a .flags .now) (s .last .0) (x .last .0) (omega (arith, all-count t, p .1 .1, s .ensures .0)) (s .ensures .1) (x .ensures .1 .1 refl (h .ensures .0))
 
 pub totals-in-spec : {M : Type 1} → statement M
 totals-in-spec =
