@@ -10,7 +10,10 @@ slice-aggregate-put-kinds : tie.Need-slice-aggregate-put-kinds
 slice-aggregate-put-kinds c = search needs
 
 put-kinds-requires : tie.Need-put-kinds-requires
-put-kinds-requires c κs = let b = c .before .before .before .before .before .before .before in (b .pre .0, largest-room (b .args .table .now) (b .pre .0))
+put-kinds-requires c κs =
+    let b = c .before .before .before .before in
+    let room = largest-room (b .args .table .now) (b .pre .0) in
+    (b .pre .0, (omega (arith, room), omega (arith, room)))
 
 open-read-requires : tie.Need-open-read-requires
 open-read-requires c κs = search needs
