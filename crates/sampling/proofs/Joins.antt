@@ -11,7 +11,7 @@ use lib.ListN.{length, getD, take, length-append, length-map}
 use lib.Seq.{take-take, take-at}
 use Rattle.model.specs.Lists.{upFrom, sumOf, concatOf, asBit}
 use Rattle.model.specs.Table.{Table}
-use Rattle.model.specs.Counters.{Counter, pointCounters, counters}
+use Rattle.model.specs.Counters.{Counter, pointCounters, crossCounters, counters}
 use Rattle.model.specs.Sampling.{Stretches, coverHit, hits}
 use Rattle.model.specs.Figures.{inTotal, itemOf}
 use Rattle.model.specs.Format.{accepted, tableOf}
@@ -31,7 +31,8 @@ use Rattle.arrays.specs.Put.{put}
 use Rattle.arrays.specs.Flat.{hitFlags, totalFlags, kindsOf, kindOf, itemsOf, allPointCounters, allCrossCounters, pointStart, pointStarts, covers, Tells, coverCounts}
 use Rattle.points.specs.Gates.{Kinded, Flagged, Gathered}
 use Rattle.sampling.specs.Index.{Roomy, Labelled}
-use Rattle.arrays.proofs.PutLaws.{put-next, front-put, front-kept}
+use Rattle.arrays.proofs.PutLaws.{put-next, put-nil, front-put, front-kept}
+use Rattle.crosses.proofs.Places.{count-crosses}
 use Rattle.arrays.proofs.FlatLaws.{counts-length, kinds-length}
 
 joined : {A : Type 0} (f : Counter → A) (xs ys : List Counter) (n : ℕ) (l m r : List A) → n ≡ length xs → n ≤ length l
@@ -154,3 +155,13 @@ plan-within s ok l el starts e n en =
 pub start-few : (s : List ℕ) → accepted s ≡ true → (starts : List ℕ) → take (pointTotal (tableOf s) + 1) starts ≡ pointStarts (tableOf s) → (n : ℕ) → n ≡ pointTotal (tableOf s) → getD starts n 0 ≤ 4096
 start-few s ok starts e n en =
     omega (arith, ap (λ (i : ℕ). getD starts i 0) en ∙ start-read (tableOf s) starts e (pointTotal (tableOf s)) (omega arith), start-low s ok (pointTotal (tableOf s)) (omega arith), sixteen s ok)
+
+-- ---- a table without crosses
+
+pub no-crosses : (s : List ℕ) → accepted s ≡ true → (l : Layout) → l ≡ layoutOf s → l .«cross_count» ≡ 0 → (w : List ℕ) (m : Stretches) (n : ℕ) (f : List ℕ)
+    → f ≡ put n (hitFlags (tableOf s) w m (allCrossCounters (tableOf s))) f
+unfolding allCrossCounters concatOf upFrom hitFlags
+no-crosses s ok l el none w m n f =
+    let t = tableOf s in
+    let z : length (t .crosses) ≡ 0 = sym (count-crosses s ok l el) ∙ none in
+    sym (ap (λ (k : ℕ). put n (map (λ c. asBit (hits t w m c)) (concatOf (crossCounters t) (upFrom 0 k))) f) z ∙ put-nil n f)

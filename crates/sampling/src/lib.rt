@@ -105,6 +105,10 @@ fn put_crossed(flags: &mut [u8], t: &[u8], sample: &[u32], gate: &[u8], x: Index
     requires { ⌜ (accepted (now t) ≡ true) × Indexed (tableOf (now t)) x × (at + length (allCrossCounters (tableOf (now t))) ≤ length (now flags)) ⌝ }
     ensures { λ _. ⌜ (Tells (coverHit (tableOf (now (t .entry))) (now (sample .entry))) (tableOf (now (t .entry))) (now (gate .entry)) → (m : Stretches) → now (flags .exit) ≡ put at (hitFlags (tableOf (now (t .entry))) (now (sample .entry)) m (allCrossCounters (tableOf (now (t .entry))))) (now (flags .entry))) ⌝ }
 {
+    let l = layout_of(t);
+    if l.cross_count == 0 {
+        return;
+    }
     if x.counters <= 1024 {
         small_crossed(flags, t, sample, gate, x, at);
         return;
