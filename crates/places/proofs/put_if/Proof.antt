@@ -1,0 +1,39 @@
+use mathlib.Core.Path.{refl, ap, sym, _∙_}
+use mathlib.Core.Bool.{Bool}
+use mathlib.Core.List.{[], _∷_}
+use Prim.Native.Nat.{_+_}
+use native.Mathlib.Omega.{arith}
+use borrow.Author.Needs.{needs}
+use lib.ListN.{set}
+use Rattle.arrays.proofs.PutLaws.{put-nil, put-cons}
+use Rattle.arrays.proofs.Written.{as-written, unwritten}
+use Rattle.places.specs.Places.{placeIf}
+use Rattle.places.proofs.put_if.Statement.{statement}
+use Rattle.places.proofs.put_if.Tie as tie
+use Rattle.places.proofs.put_if.Reads as reads
+use Rattle.places.proofs.put_if.Lts as lts
+
+cast-out : tie.Need-cast-out
+cast-out c = search needs
+
+mul-out : tie.Need-mul-out
+mul-out c = search needs
+
+slice-write-out : tie.Need-slice-write-out
+slice-write-out c = search needs
+
+add-result : tie.Need-add-result
+add-result c = search needs
+
+same-length : tie.Need-same-length
+same-length c = search needs
+
+returns : tie.Need-returns
+returns c = ?
+
+returns-2 : tie.Need-returns-2
+returns-2 c = ?
+
+pub put-if-spec : {M : Type 1} → statement M
+put-if-spec =
+    tie.close (tie.spec cast-out mul-out slice-write-out add-result same-length returns returns-2)

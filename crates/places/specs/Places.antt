@@ -1,0 +1,62 @@
+-- The places of elements: a list of numbers, where few of many elements matter.
+-- Assumes nothing.
+use Prim.Native.Nat.{ℕ, suc, _+_, _*_, _<_}
+use mathlib.Core.Path.{_≡_}
+use mathlib.Core.Bool.{Bool, true, _&&_, cond}
+use mathlib.Core.List.{List, [], _∷_}
+use lib.Dec.{leb, eqb}
+use lib.ListN.{length, getD, take, drop}
+use Rattle.model.specs.Table.{Table}
+use Rattle.model.specs.Counters.{Counter, counters, pointCounters}
+use Rattle.model.specs.Sampling.{Stretches, coverHit, hits}
+use Rattle.model.specs.Register.{pointTotal}
+use Rattle.arrays.specs.Flat.{kindOf, covers, pointStart}
+
+-- the place, if b says so
+abbrev pub placeIf : Bool → ℕ → List ℕ
+placeIf b n = cond b (n ∷ []) []
+
+-- the places of the elements of which f is true; the first element has place n
+unfoldable pub placesFrom : {A : Type 0} → (A → Bool) → ℕ → List A → List ℕ
+placesFrom f n [] = []
+placesFrom f n (x ∷ xs) = cond (f x) (n ∷ placesFrom f (suc n) xs) (placesFrom f (suc n) xs)
+
+-- a flag that is set
+abbrev pub isSet : ℕ → Bool
+isSet x = eqb x 1
+
+-- numbers from x up, each above the one before
+unfoldable pub ascending : ℕ → List ℕ → Bool
+ascending x [] = true
+ascending x (y ∷ ys) = leb x y && ascending (suc y) ys
+
+-- ---- counters
+
+-- those that the sample hits
+unfoldable pub hitPlaces : Table → List ℕ → Stretches → List ℕ
+hitPlaces t s m = placesFrom (hits t s m) 0 (counters t)
+
+abbrev pub isCoverCounter : Counter → Bool
+isCoverCounter c = eqb (kindOf c) 0
+
+-- the places of a point's cover bins
+unfoldable pub coverPlaces : Table → ℕ → List ℕ
+coverPlaces t p = placesFrom isCoverCounter (pointStart t p) (pointCounters t p)
+
+-- the array has them: those of point p stand from 256 p on
+unfoldable pub CoverPlaces : Table → List ℕ → Type 0
+CoverPlaces t a = (p k : ℕ) → p < pointTotal t → k < length (covers t p) → getD a (256 * p + k) 0 ≡ getD (coverPlaces t p) k 0
+
+-- ---- the cover bins of a point
+
+-- those that the sample hits, by their numbers among the point's
+unfoldable pub hitParts : Table → List ℕ → ℕ → List ℕ
+hitParts t s p = placesFrom (coverHit t s) 0 (covers t p)
+
+-- the array has 257 elements for each point: how many of its cover bins are hit, and then which
+pub record FoundAt (t : Table) (s : List ℕ) (a : List ℕ) (p : ℕ) : Type 0 where
+  pub count : getD a (257 * p) 0 ≡ length (hitParts t s p)
+  pub parts : take (length (hitParts t s p)) (drop (257 * p + 1) a) ≡ hitParts t s p
+
+unfoldable pub Found : Table → List ℕ → List ℕ → Type 0
+Found t s a = (p : ℕ) → p < pointTotal t → FoundAt t s a p
