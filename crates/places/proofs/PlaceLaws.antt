@@ -8,11 +8,13 @@ use native.Mathlib.Nat.{add-zero, zero-add, add-assoc, add-suc}
 use native.Mathlib.Omega.{arith}
 use lib.Dec.{leb, eqb}
 use borrow.Author.Tests.{leb-true, leb-false, le-leb, eq-eqb, ne-eqb, eqb-true}
-use lib.ListN.{length, getD}
+use native.Mathlib.Numerals.{add-one}
+use lib.Seq.{drop-cons, getD-take}
+use lib.ListN.{length, getD, take, drop, drop-of-length-le, length-take}
 use Rattle.model.specs.Lists.{oneOf, asBit}
 use Rattle.model.proofs.Readers.{All}
 use Rattle.model.proofs.Booleans.{false-true, and-left, and-right}
-use Rattle.places.specs.Places.{placesFrom, ascending}
+use Rattle.places.specs.Places.{isSet, placeIf, placesFrom, ascending}
 
 -- one list after the other
 pub places-append : {A : Type 0} (f : A → Bool) (n : ℕ) (xs ys : List A) → placesFrom f n (xs ++ ys) ≡ placesFrom f n xs ++ placesFrom f (n + length xs) ys
@@ -65,6 +67,48 @@ places-below f n (x ∷ xs) =
     go : (b : Bool) → All (λ k. k < n + suc (length xs)) (placesFrom f (suc n) xs) → All (λ k. k < n + suc (length xs)) (cond b (n ∷ placesFrom f (suc n) xs) (placesFrom f (suc n) xs))
     go true h = (omega arith, h)
     go false h = h
+
+-- ---- one element after the other
+
+places-first : {A : Type 0} (f : A → Bool) (n : ℕ) (x : A) (xs : List A) → placesFrom f n (x ∷ xs) ≡ placeIf (f x) n ++ placesFrom f (suc n) xs
+unfolding placesFrom
+places-first f n x xs = go (f x)
+  where
+    go : (b : Bool) → cond b (n ∷ placesFrom f (suc n) xs) (placesFrom f (suc n) xs) ≡ placeIf b n ++ placesFrom f (suc n) xs
+    go true = refl
+    go false = refl
+
+module _ {A : Type 0} (f : A → Bool) (n : ℕ) (xs : List A) where
+  -- before the first, and after the last
+  pub places-start : placesFrom f (n + 0) (drop 0 xs) ≡ placesFrom f n xs
+  places-start = ap (λ (m : ℕ). placesFrom f m xs) (add-zero n)
+
+  pub places-end : (i : ℕ) → length xs ≤ i → placesFrom f (n + i) (drop i xs) ≡ []
+  places-end i h = ap (placesFrom f (n + i)) (drop-of-length-le xs h) ∙ (unfold placesFrom in refl)
+
+  -- the next
+  pub places-turn : (d : A) (i : ℕ) → i < length xs → placesFrom f (n + i) (drop i xs) ≡ placeIf (f (getD xs i d)) (n + i) ++ placesFrom f (n + (i + 1)) (drop (i + 1) xs)
+  places-turn d i h =
+      let e : suc (n + i) ≡ n + (i + 1) = omega arith in
+      ap (placesFrom f (n + i)) (drop-cons xs i d h ∙ ap (λ (m : ℕ). getD xs i d ∷ drop m xs) (sym (add-one i)))
+      ∙ places-first f (n + i) (getD xs i d) (drop (i + 1) xs)
+      ∙ ap (λ (m : ℕ). placeIf (f (getD xs i d)) (n + i) ++ placesFrom f m (drop (i + 1) xs)) e
+
+-- ---- flags
+
+pub one-place : (b : Bool) (n : ℕ) → length (placeIf b n) ≤ 1
+one-place true n = omega arith
+one-place false n = omega arith
+
+module _ (base n : ℕ) (flags : List ℕ) where
+  -- there is room for them where there is for n
+  pub set-fits : (out : List ℕ) → n ≤ length out → 0 + length (placesFrom isSet base (take n flags)) ≤ length out
+  set-fits out h = omega (arith, places-few isSet base (take n flags), length-take n flags)
+
+  pub set-turn : (i : ℕ) → i < n → n ≤ length flags → placesFrom isSet (base + i) (drop i (take n flags)) ≡ placeIf (isSet (getD flags i 0)) (base + i) ++ placesFrom isSet (base + (i + 1)) (drop (i + 1) (take n flags))
+  set-turn i h k =
+      places-turn isSet base (take n flags) 0 i (omega (arith, length-take n flags))
+      ∙ ap (λ (x : ℕ). placeIf (isSet x) (base + i) ++ placesFrom isSet (base + (i + 1)) (drop (i + 1) (take n flags))) (getD-take n flags i 0 h)
 
 -- ---- in ascending order
 

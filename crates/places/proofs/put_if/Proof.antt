@@ -29,10 +29,15 @@ same-length : tie.Need-same-length
 same-length c = search needs
 
 returns : tie.Need-returns
-returns c = ?
+returns c =
+    let a = c .before .args in
+    as-written (a .at) (a .at + 1) 1 (a .place ∷ []) _ (a .out .now) (set (a .out .now) (a .at) (a .place)) (ap (λ (b : Bool). placeIf b (a .place)) (c .if1 .taken)) refl refl
+    (sym (put-nil (a .at + 1) (set (a .out .now) (a .at) (a .place))) ∙ put-cons (a .at) (a .place) [] (a .out .now) (omega arith))
 
 returns-2 : tie.Need-returns-2
-returns-2 c = ?
+returns-2 c =
+    let a = c .before .args in
+    unwritten (a .at) _ (a .out .now) (ap (λ (b : Bool). placeIf b (a .place)) (c .if1 .left))
 
 pub put-if-spec : {M : Type 1} → statement M
 put-if-spec =

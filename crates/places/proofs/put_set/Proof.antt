@@ -1,41 +1,63 @@
+use mathlib.Core.Path.{_≡_, refl, sym, ap, _∙_}
+use mathlib.Core.List.{List}
+use Prim.Native.Nat.{ℕ, _+_, _-_, _≤_}
+use native.Mathlib.Omega.{arith}
+use lib.ListN.{length, take, drop, getD, length-take}
+use lib.Seq.{getD-take, length-take-le}
+use Rattle.arrays.proofs.Written.{Written, written-start, written-turn, written-end}
+use Rattle.places.specs.Places.{isSet, placeIf, placesFrom}
+use Rattle.places.proofs.PlaceLaws.{places-start, places-end, one-place, set-fits, set-turn}
 use Rattle.places.proofs.put_set.Statement.{statement}
 use Rattle.places.proofs.put_set.Tie as tie
-use Rattle.places.proofs.put_set.Reads as reads
-use Rattle.places.proofs.put_set.Lts as lts
-use Rattle.places.proofs.put_if.Reads as put-if-reads
 
 abbrev Inv-loop : tie.InvT-loop
-Inv-loop out₀ flags n base c₀ i₀ out c i = ?
+Inv-loop out₀ flags n base c₀ i₀ out c i =
+    (i ≤ n) × (c ≤ i) × Written 0 (placesFrom isSet base (take n flags)) out₀ c out (placesFrom isSet (base + i) (drop i (take n flags)))
 
 abbrev μ-loop : tie.MeasureT-loop
-μ-loop out₀ flags n base c₀ i₀ out c i = ?
+μ-loop out₀ flags n base c₀ i₀ out c i = n - i
 
 loop-holds : tie.Need-loop-holds Inv-loop μ-loop
-loop-holds c = ?
+loop-holds c =
+    let a = c .before .before .args in
+    (omega arith, omega arith, written-start 0 (placesFrom isSet (a .base) (take (a .n) (a .flags .now))) _ (a .out .now) (places-start isSet (a .base) (take (a .n) (a .flags .now))))
 
 shared-slice-read-put-if : tie.Need-shared-slice-read-put-if Inv-loop μ-loop
-shared-slice-read-put-if c = ?
+shared-slice-read-put-if c = omega arith
 
 add-put-if : tie.Need-add-put-if Inv-loop μ-loop
-add-put-if c = ?
+add-put-if c = omega arith
 
 put-if-requires : tie.Need-put-if-requires Inv-loop μ-loop
-put-if-requires c κs = ?
+put-if-requires c κs =
+    let l = c .before .before .before .loop in
+    (omega (arith, l .inv .1, l .inv .2 .kept, c .before .before .before .before .before .before .pre .0), omega arith)
 
 add-i : tie.Need-add-i Inv-loop μ-loop
-add-i c = ?
+add-i c = omega arith
 
 loop-less : tie.Need-loop-less Inv-loop μ-loop
-loop-less c = ?
+loop-less c = omega arith
 
 loop-again : tie.Need-loop-again Inv-loop μ-loop
-loop-again c = ?
+loop-again c =
+    let a = c .before .before .before .before .before .before .before .before .before .args in
+    let l = c .before .before .before .before .before .before .loop in
+    let q = c .before .before .put-if in
+    let fs = a .flags .now in
+    let whole = placesFrom isSet (a .base) (take (a .n) fs) in
+    let few = set-fits (a .base) (a .n) fs (a .out .now) (c .before .before .before .before .before .before .before .before .before .pre .1) in
+    (omega arith, omega (arith, l .inv .1, q .ensures .0, one-place (isSet (getD fs (l .i) 0)) (a .base + l .i)), written-turn 0 whole (a .out .now) (l .c) (l .out) _ (l .inv .2) few _ _ (set-turn (a .base) (a .n) fs (l .i) (omega arith) (c .before .before .before .before .before .before .before .before .before .pre .0)) (q .result) (q .last .0) (q .ensures .0) (q .ensures .1))
 
 same-length : tie.Need-same-length Inv-loop μ-loop
-same-length c = ?
+same-length c = c .before .loop .inv .2 .kept
 
 returns : tie.Need-returns Inv-loop μ-loop
-returns c = ?
+returns c =
+    let a = c .before .before .before .before .args in
+    let l = c .before .loop in
+    let e = written-end 0 (placesFrom isSet (a .base) (take (a .n) (a .flags .now))) (a .out .now) (l .c) (l .out) _ (l .inv .2) (places-end isSet (a .base) (take (a .n) (a .flags .now)) (l .i) (omega (arith, length-take (a .n) (a .flags .now)))) in
+    (omega (arith, e .0), e .1)
 
 pub put-set-spec : {M : Type 1} → statement M
 put-set-spec =
