@@ -1,10 +1,10 @@
 // The entries of a log, one after the other.
-use crate::files::Filled;
-use crate::files::fill;
-use crate::files::least;
-use crate::files::to_front;
-use crate::out::say;
-use crate::text::say_number;
+use streams::files::Filled;
+use streams::files::fill;
+use streams::files::least;
+use streams::files::to_front;
+use streams::out::say;
+use streams::text::say_number;
 use values::fields::word;
 use words::bytes::byte;
 use words::bytes::read4;

@@ -1,26 +1,21 @@
 // Replays a log of samples over a register and writes what it covered.
 mod entries;
-mod errors;
-mod files;
-mod help;
-mod out;
 mod report;
-mod text;
 
 use crate::entries::Log;
 use crate::entries::UNREAD;
 use crate::entries::take_all;
-use crate::errors::cannot_read;
-use crate::files::fill;
-use crate::help::first_is;
-use crate::help::say_help;
-use crate::help::say_usage;
-use crate::out::flush;
-use crate::out::say;
+use streams::errors::cannot_read;
+use streams::files::fill;
+use streams::help::first_is;
+use streams::help::say_help;
+use streams::help::say_usage;
+use streams::out::flush;
+use streams::out::say;
 use crate::report::say_ending;
 use crate::report::say_report;
-use crate::text::end_line;
-use crate::text::say_refusal;
+use streams::text::end_line;
+use streams::text::say_refusal;
 use sampling::put_kinds;
 use table::answer::Facts;
 use table::facts;

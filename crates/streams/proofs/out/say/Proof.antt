@@ -2,8 +2,8 @@ use mathlib.Core.Path.{_≡_}
 use Prim.Native.Nat.{_≤_, _-_}
 use lib.ListN.{length}
 use borrow.Author.Needs.{needs}
-use Rattle.replay.proofs.out.say.Statement.{statement}
-use Rattle.replay.proofs.out.say.Tie as tie
+use Rattle.streams.proofs.out.say.Statement.{statement}
+use Rattle.streams.proofs.out.say.Tie as tie
 
 abbrev Inv-loop : tie.InvT-loop
 Inv-loop out₀ text i₀ out i = (i ≤ length text) × (length out ≡ length out₀)

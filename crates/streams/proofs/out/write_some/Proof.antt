@@ -1,7 +1,7 @@
 use Prim.Native.Nat.{_-_}
 use borrow.Author.Needs.{needs}
-use Rattle.replay.proofs.out.write_some.Statement.{statement}
-use Rattle.replay.proofs.out.write_some.Tie as tie
+use Rattle.streams.proofs.out.write_some.Statement.{statement}
+use Rattle.streams.proofs.out.write_some.Tie as tie
 
 abbrev Inv-loop : tie.InvT-loop
 Inv-loop text tries₀ tries = Unit {0}

@@ -1,8 +1,8 @@
 use native.Mathlib.Omega.{arith}
 use lib.ListN.{length-set}
 use borrow.Author.Needs.{needs}
-use Rattle.replay.proofs.errors.put_byte.Statement.{statement}
-use Rattle.replay.proofs.errors.put_byte.Tie as tie
+use Rattle.streams.proofs.errors.put_byte.Statement.{statement}
+use Rattle.streams.proofs.errors.put_byte.Tie as tie
 
 returns : tie.Need-returns
 returns c = search needs

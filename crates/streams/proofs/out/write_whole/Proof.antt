@@ -1,8 +1,8 @@
 use Prim.Native.Nat.{_≤_, _-_}
 use lib.ListN.{length}
 use borrow.Author.Needs.{needs}
-use Rattle.replay.proofs.out.write_whole.Statement.{statement}
-use Rattle.replay.proofs.out.write_whole.Tie as tie
+use Rattle.streams.proofs.out.write_whole.Statement.{statement}
+use Rattle.streams.proofs.out.write_whole.Tie as tie
 
 abbrev Inv-loop : tie.InvT-loop
 Inv-loop text done₀ done = done ≤ length text

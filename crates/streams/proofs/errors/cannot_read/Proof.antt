@@ -2,8 +2,8 @@ use mathlib.Core.Path.{sym}
 use native.Mathlib.Omega.{arith}
 use lib.Seq.{length-take-le}
 use borrow.Author.Needs.{needs}
-use Rattle.replay.proofs.errors.cannot_read.Statement.{statement}
-use Rattle.replay.proofs.errors.cannot_read.Tie as tie
+use Rattle.streams.proofs.errors.cannot_read.Statement.{statement}
+use Rattle.streams.proofs.errors.cannot_read.Tie as tie
 
 slice-aggregate-put-text : tie.Need-slice-aggregate-put-text
 slice-aggregate-put-text c = search needs

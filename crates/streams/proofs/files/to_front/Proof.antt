@@ -7,8 +7,8 @@ use lib.Seq.{drop-cons, drop-set-lt}
 use Rattle.model.proofs.Lists.{one-left}
 use Rattle.arrays.specs.Put.{put}
 use Rattle.arrays.proofs.PutLaws.{put-nil, put-cons}
-use Rattle.replay.proofs.files.to_front.Statement.{statement}
-use Rattle.replay.proofs.files.to_front.Tie as tie
+use Rattle.streams.proofs.files.to_front.Statement.{statement}
+use Rattle.streams.proofs.files.to_front.Tie as tie
 
 -- what is left to move: it stands behind the bytes that were written
 left : (from n i : ℕ) (l : List ℕ) → List ℕ

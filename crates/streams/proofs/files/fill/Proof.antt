@@ -6,8 +6,8 @@ use lib.Seq.{length-take-le}
 use lib.ListN.{length}
 use borrow.Author.Needs.{needs}
 use Rattle.io.specs.Counts.{Counts}
-use Rattle.replay.proofs.files.fill.Statement.{statement}
-use Rattle.replay.proofs.files.fill.Tie as tie
+use Rattle.streams.proofs.files.fill.Statement.{statement}
+use Rattle.streams.proofs.files.fill.Tie as tie
 
 counts : (n : ℕ) (l : List ℕ) → n ≤ length l → Counts n l
 counts n l h = (h, sym (length-take-le n l h))

@@ -2,8 +2,8 @@ use mathlib.Core.Path.{_≡_}
 use Prim.Native.Nat.{_-_}
 use lib.ListN.{length}
 use borrow.Author.Needs.{needs}
-use Rattle.replay.proofs.files.read_some.Statement.{statement}
-use Rattle.replay.proofs.files.read_some.Tie as tie
+use Rattle.streams.proofs.files.read_some.Statement.{statement}
+use Rattle.streams.proofs.files.read_some.Tie as tie
 
 abbrev Inv-loop : tie.InvT-loop
 Inv-loop part₀ fd tries₀ part tries = length part ≡ length part₀
