@@ -4,3 +4,5 @@ pub mod FindLaws
 pub mod Passed
 pub mod Whole
 pub mod WriteLaws
+pub mod RaiseLaws
+pub mod SeekLaws

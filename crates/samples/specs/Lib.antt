@@ -1,3 +1,4 @@
 -- The definitions that the contracts cite.
 pub mod Adds
 pub mod Writes
+pub mod Raises

@@ -1,0 +1,123 @@
+-- Laws of counts that are raised at listed places.
+-- Assumes nothing.
+use mathlib.Core.Path.{_≡_, refl, sym, ap, ap₂, _∙_}
+use mathlib.Core.Bool.{Bool, true, false, cond}
+use mathlib.Core.List.{List, [], _∷_}
+use Prim.Native.Nat.{ℕ, suc, _+_, _-_, _≤_, _<_}
+use native.Mathlib.Nat.{zero-add}
+use native.Mathlib.Numerals.{add-one}
+use native.Mathlib.Omega.{arith}
+use lib.ListN.{length, take, drop, getD, set, length-set, drop-of-length-le}
+use lib.Dec.{eqb}
+use lib.Seq.{drop-set-lt, getD-set-same, getD-set-other, ext-getD}
+use borrow.Author.Tests.{eqb-true, eqb-false}
+use Rattle.model.specs.Lists.{pairUp, asBit}
+use Rattle.model.proofs.Readers.{All}
+use Rattle.model.proofs.Lists.{head-tail}
+use Rattle.arrays.specs.Put.{put}
+use Rattle.arrays.proofs.PutLaws.{put-nil, put-cons}
+use Rattle.places.specs.Places.{ascending, isSet, placesFrom}
+use Rattle.places.proofs.PlaceLaws.{ascending-head, ascending-tail, ascending-from}
+use Rattle.samples.specs.Adds.{addHits}
+use Rattle.samples.specs.Raises.{raiseEach, Raisable}
+
+-- ---- one turn
+
+raise-none : (at : ℕ) (w : List ℕ) → raiseEach at [] w ≡ w
+unfolding raiseEach
+raise-none at w = refl
+
+raise-first : (at x : ℕ) (xs w : List ℕ) → raiseEach at (x ∷ xs) w ≡ raiseEach at xs (set w (at + x) (getD w (at + x) 0 + 1))
+unfolding raiseEach
+raise-first at x xs w = refl
+
+-- the counts of later places are as they were
+later-room : (at x v : ℕ) (w ys : List ℕ) → ascending (suc x) ys ≡ true → All (λ y. getD w (at + y) 0 < 4294967295) ys → All (λ y. getD (set w (at + x) v) (at + y) 0 < 4294967295) ys
+later-room at x v w [] a h = tt
+later-room at x v w (y ∷ ys) a h =
+    let g = ascending-head (suc x) y ys a in
+    let e : getD (set w (at + x) v) (at + y) 0 ≡ getD w (at + y) 0 = getD-set-other w (at + x) (at + y) v 0 (λ (z : at + y ≡ at + x). omega arith) in
+    (rw e (h .0), later-room at x v w ys (ascending-from (suc y) (suc x) ys (omega arith) (ascending-tail (suc x) y ys a)) (h .1))
+
+later-there : (at x v : ℕ) (w ys : List ℕ) → All (λ y. at + y < length w) ys → All (λ y. at + y < length (set w (at + x) v)) ys
+later-there at x v w [] h = tt
+later-there at x v w (y ∷ ys) h = (simp length-set (h .0), later-there at x v w ys (h .1))
+
+raisable-tail : (at x v : ℕ) (xs w : List ℕ) → Raisable at (x ∷ xs) w → Raisable at xs (set w (at + x) v)
+raisable-tail at x v xs w ok =
+    let a = ascending-tail 0 x xs (ok .order) in
+    record { order = ascending-from (suc x) 0 xs (omega arith) a; there = later-there at x v w xs (ok .there .1); room = later-room at x v w xs a (ok .room .1) }
+
+module _ (at : ℕ) (l w : List ℕ) (i : ℕ) (h : i < length l) (ok : Raisable at (drop i l) w) where
+  here : Raisable at (getD l i 0 ∷ drop (i + 1) l) w
+  here = rw (← head-tail l i 0 h) ok
+
+  pub raise-there : at + getD l i 0 < length w
+  raise-there = here .there .0
+
+  pub raise-room : getD w (at + getD l i 0) 0 < 4294967295
+  raise-room = here .room .0
+
+  pub raise-on : (v : ℕ) → Raisable at (drop (i + 1) l) (set w (at + getD l i 0) v)
+  raise-on v = raisable-tail at (getD l i 0) v (drop (i + 1) l) w here
+
+  pub raise-turn : raiseEach at (drop (i + 1) l) (set w (at + getD l i 0) (getD w (at + getD l i 0) 0 + 1)) ≡ raiseEach at (drop i l) w
+  raise-turn = sym (ap (λ (z : List ℕ). raiseEach at z w) (head-tail l i 0 h) ∙ raise-first at (getD l i 0) (drop (i + 1) l) w)
+
+pub raise-end : (at : ℕ) (l w : List ℕ) (i : ℕ) → length l ≤ i → raiseEach at (drop i l) w ≡ w
+raise-end at l w i h = ap (λ (z : List ℕ). raiseEach at z w) (drop-of-length-le l h) ∙ raise-none at w
+
+-- ---- the places of flags
+
+-- the flags that are left at the n-th
+abbrev risen : ℕ → ℕ → List ℕ → List ℕ → List ℕ
+risen at n fs w = addHits isSet fs (take (length fs) (drop (at + n) w))
+
+one-more : (at n f : ℕ) (fs w : List ℕ) → at + n < length w → risen at n (f ∷ fs) w ≡ (asBit (isSet f) + getD w (at + n) 0) ∷ risen at (suc n) fs w
+one-more at n f fs w h =
+    let e : at + n + 1 ≡ at + suc n = omega arith in
+    ap (λ (z : List ℕ). addHits isSet (f ∷ fs) (take (suc (length fs)) z)) (head-tail w (at + n) 0 h ∙ ap (λ (m : ℕ). getD w (at + n) 0 ∷ drop m w) e)
+    ∙ (unfold addHits pairUp in refl)
+
+no-flag : (at n : ℕ) (w : List ℕ) → raiseEach at [] w ≡ put (at + n) (risen at n [] w) w
+unfolding raiseEach addHits pairUp
+no-flag at n w = sym (put-nil (at + n) w)
+
+-- a count that is written as it was
+set-self : (w : List ℕ) (i : ℕ) → i < length w → set w i (getD w i 0) ≡ w
+set-self w i h = ext-getD 0 (set w i (getD w i 0)) w (simp length-set) (λ j k. go j (eqb j i) refl)
+  where
+    go : (j : ℕ) (b : Bool) → eqb j i ≡ b → getD (set w i (getD w i 0)) j 0 ≡ getD w j 0
+    go j true e = let z = eqb-true j i e in ap (λ (m : ℕ). getD (set w i (getD w i 0)) m 0) z ∙ getD-set-same w i (getD w i 0) 0 h ∙ ap (λ (m : ℕ). getD w m 0) (sym z)
+    go j false e = getD-set-other w i j (getD w i 0) 0 (eqb-false j i e)
+
+-- the first of them: what the rest does to the count that is raised or not
+first-flag : (at n : ℕ) (b : Bool) (fs w : List ℕ) → at + n < length w
+    → ((v : ℕ) → raiseEach at (placesFrom isSet (suc n) fs) (set w (at + n) v) ≡ put (at + suc n) (risen at (suc n) fs (set w (at + n) v)) (set w (at + n) v))
+    → raiseEach at (cond b (n ∷ placesFrom isSet (suc n) fs) (placesFrom isSet (suc n) fs)) w ≡ put (at + n + 1) (risen at (suc n) fs w) (set w (at + n) (asBit b + getD w (at + n) 0))
+first-flag at n b fs w h ih = split b
+  where
+    e : at + suc n ≡ at + n + 1
+    e = omega arith
+
+    later : (v : ℕ) → raiseEach at (placesFrom isSet (suc n) fs) (set w (at + n) v) ≡ put (at + n + 1) (risen at (suc n) fs w) (set w (at + n) v)
+    later v = ih v ∙ ap₂ (λ (m : ℕ) (z : List ℕ). put m (addHits isSet fs (take (length fs) z)) (set w (at + n) v)) e (drop-set-lt (at + suc n) w (at + n) v (omega arith))
+
+    more : getD w (at + n) 0 + 1 ≡ 1 + getD w (at + n) 0
+    more = omega arith
+
+    kept : w ≡ set w (at + n) (0 + getD w (at + n) 0)
+    kept = sym (ap (set w (at + n)) (zero-add (getD w (at + n) 0)) ∙ set-self w (at + n) h)
+
+    split : (c : Bool) → raiseEach at (cond c (n ∷ placesFrom isSet (suc n) fs) (placesFrom isSet (suc n) fs)) w ≡ put (at + n + 1) (risen at (suc n) fs w) (set w (at + n) (asBit c + getD w (at + n) 0))
+    split true = raise-first at n (placesFrom isSet (suc n) fs) w ∙ ap (λ (v : ℕ). raiseEach at (placesFrom isSet (suc n) fs) (set w (at + n) v)) more ∙ later (1 + getD w (at + n) 0)
+    split false = ap (raiseEach at (placesFrom isSet (suc n) fs)) kept ∙ later (0 + getD w (at + n) 0)
+
+-- Where the flags are set, the counts rise.
+pub raise-flags : (at n : ℕ) (fs w : List ℕ) → at + n + length fs ≤ length w → raiseEach at (placesFrom isSet n fs) w ≡ put (at + n) (risen at n fs w) w
+unfolding placesFrom
+raise-flags at n [] w h = no-flag at n w
+raise-flags at n (f ∷ fs) w h =
+    first-flag at n (isSet f) fs w (omega arith) (λ v. raise-flags at (suc n) fs (set w (at + n) v) (simp length-set (omega arith)))
+    ∙ put-cons (at + n) (asBit (isSet f) + getD w (at + n) 0) (risen at (suc n) fs w) w (omega arith)
+    ∙ ap (λ (z : List ℕ). put (at + n) z w) (sym (one-more at n f fs w (omega arith)))
