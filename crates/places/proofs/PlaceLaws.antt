@@ -14,7 +14,7 @@ use lib.ListN.{length, getD, take, drop, drop-of-length-le, length-take}
 use Rattle.model.specs.Lists.{oneOf, asBit}
 use Rattle.model.proofs.Readers.{All}
 use Rattle.model.proofs.Booleans.{false-true, and-left, and-right}
-use Rattle.places.specs.Places.{isSet, placeIf, placesFrom, ascending}
+use Rattle.places.specs.Places.{placeIf, placesFrom, ascending}
 
 -- one list after the other
 pub places-append : {A : Type 0} (f : A → Bool) (n : ℕ) (xs ys : List A) → placesFrom f n (xs ++ ys) ≡ placesFrom f n xs ++ placesFrom f (n + length xs) ys
@@ -94,21 +94,21 @@ module _ {A : Type 0} (f : A → Bool) (n : ℕ) (xs : List A) where
       ∙ places-first f (n + i) (getD xs i d) (drop (i + 1) xs)
       ∙ ap (λ (m : ℕ). placeIf (f (getD xs i d)) (n + i) ++ placesFrom f m (drop (i + 1) xs)) e
 
--- ---- flags
+-- ---- flags, and kinds
 
 pub one-place : (b : Bool) (n : ℕ) → length (placeIf b n) ≤ 1
 one-place true n = omega arith
 one-place false n = omega arith
 
-module _ (base n : ℕ) (flags : List ℕ) where
+module _ (f : ℕ → Bool) (base n : ℕ) (flags : List ℕ) where
   -- there is room for them where there is for n
-  pub set-fits : (out : List ℕ) → n ≤ length out → 0 + length (placesFrom isSet base (take n flags)) ≤ length out
-  set-fits out h = omega (arith, places-few isSet base (take n flags), length-take n flags)
+  pub set-fits : (out : List ℕ) → n ≤ length out → 0 + length (placesFrom f base (take n flags)) ≤ length out
+  set-fits out h = omega (arith, places-few f base (take n flags), length-take n flags)
 
-  pub set-turn : (i : ℕ) → i < n → n ≤ length flags → placesFrom isSet (base + i) (drop i (take n flags)) ≡ placeIf (isSet (getD flags i 0)) (base + i) ++ placesFrom isSet (base + (i + 1)) (drop (i + 1) (take n flags))
+  pub set-turn : (i : ℕ) → i < n → n ≤ length flags → placesFrom f (base + i) (drop i (take n flags)) ≡ placeIf (f (getD flags i 0)) (base + i) ++ placesFrom f (base + (i + 1)) (drop (i + 1) (take n flags))
   set-turn i h k =
-      places-turn isSet base (take n flags) 0 i (omega (arith, length-take n flags))
-      ∙ ap (λ (x : ℕ). placeIf (isSet x) (base + i) ++ placesFrom isSet (base + (i + 1)) (drop (i + 1) (take n flags))) (getD-take n flags i 0 h)
+      places-turn f base (take n flags) 0 i (omega (arith, length-take n flags))
+      ∙ ap (λ (x : ℕ). placeIf (f x) (base + i) ++ placesFrom f (base + (i + 1)) (drop (i + 1) (take n flags))) (getD-take n flags i 0 h)
 
 -- ---- in ascending order
 

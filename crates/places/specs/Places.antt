@@ -2,7 +2,7 @@
 -- Assumes nothing.
 use Prim.Native.Nat.{ℕ, suc, _+_, _*_, _<_}
 use mathlib.Core.Path.{_≡_}
-use mathlib.Core.Bool.{Bool, true, _&&_, cond}
+use mathlib.Core.Bool.{Bool, true, _&&_, _||_, cond}
 use mathlib.Core.List.{List, [], _∷_}
 use lib.Dec.{leb, eqb}
 use lib.ListN.{length, getD, take, drop}
@@ -24,6 +24,10 @@ placesFrom f n (x ∷ xs) = cond (f x) (n ∷ placesFrom f (suc n) xs) (placesFr
 -- a flag that is set
 abbrev pub isSet : ℕ → Bool
 isSet x = eqb x 1
+
+-- the kinds of counters (Flat's kindOf) that a list may be of: 0 cover bins, 1 default and illegal value bins, 2 all illegal ones
+abbrev pub ofKind : ℕ → ℕ → Bool
+ofKind which k = (eqb which 0 && eqb k 0) || ((eqb which 1 && (eqb k 1 || eqb k 2)) || (eqb which 2 && (eqb k 2 || (eqb k 4 || eqb k 6))))
 
 -- numbers from x up, each above the one before
 unfoldable pub ascending : ℕ → List ℕ → Bool

@@ -3,7 +3,7 @@ ghost use mathlib.Core.Path.{_≡_};
 ghost use Prim.Native.Nat.{_<_, _≤_, _+_};
 ghost use lib.ListN.{length, take};
 ghost use Rattle.arrays.specs.Put.{put};
-ghost use Rattle.places.specs.Places.{isSet, placeIf, placesFrom};
+ghost use Rattle.places.specs.Places.{isSet, ofKind, placeIf, placesFrom};
 
 // A place, if b says so. Answers where the next one stands.
 pub fn put_if(out: &mut [u16], at: usize, b: bool, place: usize) -> usize
@@ -26,6 +26,30 @@ pub fn put_set(out: &mut [u16], flags: &[u8], n: usize, base: usize) -> usize
     let mut i = 0;
     while i < n {
         c = put_if(out, c, flags[i] == 1, base + i);
+        i += 1;
+    }
+    c
+}
+
+// The kind is one of those.
+fn of_kind(which: u8, k: u8) -> bool
+    ensures { λ r. ⌜ r ≡ ofKind which k ⌝ }
+{
+    let illegal = (k == 2) | ((k == 4) | (k == 6));
+    let plain = (k == 1) | (k == 2);
+    ((which == 0) & (k == 0)) | (((which == 1) & plain) | ((which == 2) & illegal))
+}
+
+// The places of the counters of those kinds among n, the first of which has place base. Answers how many they are.
+pub fn put_of_kind(out: &mut [u16], kinds: &[u8], n: usize, base: usize, which: u8) -> usize
+    requires { ⌜ (n ≤ length (now kinds)) × (n ≤ length (now out)) × (base + n ≤ 65535) ⌝ }
+    ensures { λ r. ⌜ (r ≡ length (placesFrom (ofKind which) base (take n (now (kinds .entry))))) × (now (out .exit) ≡ put 0 (placesFrom (ofKind which) base (take n (now (kinds .entry)))) (now (out .entry))) ⌝ }
+{
+    let mut c = 0;
+    let mut i = 0;
+    while i < n {
+        let b = of_kind(which, kinds[i]);
+        c = put_if(out, c, b, base + i);
         i += 1;
     }
     c

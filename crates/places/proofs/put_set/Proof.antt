@@ -46,8 +46,8 @@ loop-again c =
     let q = c .before .before .put-if in
     let fs = a .flags .now in
     let whole = placesFrom isSet (a .base) (take (a .n) fs) in
-    let few = set-fits (a .base) (a .n) fs (a .out .now) (c .before .before .before .before .before .before .before .before .before .pre .1) in
-    (omega arith, omega (arith, l .inv .1, q .ensures .0, one-place (isSet (getD fs (l .i) 0)) (a .base + l .i)), written-turn 0 whole (a .out .now) (l .c) (l .out) _ (l .inv .2) few _ _ (set-turn (a .base) (a .n) fs (l .i) (omega arith) (c .before .before .before .before .before .before .before .before .before .pre .0)) (q .result) (q .last .0) (q .ensures .0) (q .ensures .1))
+    let few = set-fits isSet (a .base) (a .n) fs (a .out .now) (c .before .before .before .before .before .before .before .before .before .pre .1) in
+    (omega arith, omega (arith, l .inv .1, q .ensures .0, one-place (isSet (getD fs (l .i) 0)) (a .base + l .i)), written-turn 0 whole (a .out .now) (l .c) (l .out) _ (l .inv .2) few _ _ (set-turn isSet (a .base) (a .n) fs (l .i) (omega arith) (c .before .before .before .before .before .before .before .before .before .pre .0)) (q .result) (q .last .0) (q .ensures .0) (q .ensures .1))
 
 same-length : tie.Need-same-length Inv-loop μ-loop
 same-length c = c .before .loop .inv .2 .kept
