@@ -1,0 +1,4 @@
+pub mod RowLaws
+pub mod PartLaws
+pub mod GuardLaws
+pub mod HitLaws
