@@ -11,3 +11,4 @@ pub mod Plans
 pub mod PointPlans
 pub mod RowLaws
 pub mod Accepted
+pub mod PlanRows

@@ -2,11 +2,11 @@
 -- Assumes nothing.
 use mathlib.Core.Path.{_≡_, refl, sym, ap, ap₂, _∙_, subst}
 use mathlib.Core.Bool.{Bool, true, cond}
-use mathlib.Core.List.{List, [], _∷_, _++_, append-assoc}
+use mathlib.Core.List.{List, [], _∷_, _++_, map, append-assoc}
 use Prim.Native.Nat.{ℕ, suc, _+_, _-_, _*_, _/_, _%_, _^_, _≤_, _<_}
 use native.Mathlib.Omega.{arith}
 use lib.ListN.{length, getD, set, take, drop, length-take, length-drop, drop-of-length-le}
-use lib.Seq.{getD-drop, getD-take, ext-getD, take-at}
+use lib.Seq.{getD-drop, getD-take, ext-getD, take-at, take-take}
 use borrow.Author.Tests.{lt-ltb, le-ltb}
 use Rattle.model.specs.Table.{Range, span, pattern, Table}
 use Rattle.model.specs.Values.{lowest, highest}
@@ -17,7 +17,7 @@ use Rattle.model.proofs.Lists.{head-tail}
 use Rattle.model.proofs.Readers.{All, all-map}
 use Rattle.arrays.specs.Put.{put}
 use Rattle.arrays.specs.Flat.{covers}
-use Rattle.arrays.proofs.PutLaws.{put-nil, put-cons, put-in, put-before, length-put, put-next}
+use Rattle.arrays.proofs.PutLaws.{put-nil, put-cons, put-in, put-before, length-put, put-next, part-put}
 use Rattle.ranges.specs.Taken.{excludedAt}
 use Rattle.layout.specs.Places.{layoutOf}
 use Rattle.layout.specs.declared.Layout.{Layout}
@@ -27,7 +27,9 @@ use Rattle.spans.proofs.Exact.{accepted-collectable}
 use Rattle.spans.proofs.Point.{spans-of, excluded-listed}
 use Rattle.spans.specs.Point.{SpansOf, freeValue, rangesListed}
 use Rattle.parts.specs.Rows.{Row}
+use Rattle.parts.specs.Words.{planRowsAt}
 use Rattle.parts.specs.Point.{RowsOf}
+use Rattle.parts.proofs.PlanRows.{unbinned, unbinned-rows}
 use Rattle.pieces.specs.Pieces.{Piece, piece, pieceAt, piecesAt, PiecesOf}
 use Rattle.pieces.specs.Cuts.{allPieces, rangeWords, pieceWords, Cuttable}
 use Rattle.pieces.specs.Plan.{segment, PointPlan, pointNeed}
@@ -78,20 +80,26 @@ segment-same u w from to h k m e =
     getD-take (to - from) (drop from u) i 0 b ∙ getD-drop from u i 0 ∙ e (from + i) (omega arith) ∙ sym (getD-take (to - from) (drop from w) i 0 b ∙ getD-drop from w i 0)
 
 -- a write above the point's words
-pub plan-kept : (t : Table) (p : ℕ) (w w′ : List ℕ) (from mid to c : ℕ) → PointPlan t p w from mid to → to ≤ c → length w′ ≡ length w → take c w′ ≡ take c w → PointPlan t p w′ from mid to
-plan-kept t p w w′ from mid to c o h el e =
+pub plan-kept : (t : Table) (p : ℕ) (w w′ : List ℕ) (from mid rows to c : ℕ) → PointPlan t p w from mid rows to → to ≤ c → length w′ ≡ length w → take c w′ ≡ take c w → PointPlan t p w′ from mid rows to
+plan-kept t p w w′ from mid rows to c o h el e =
     record {
       order = o .order;
       order₁ = o .order₁;
-      order₂ = omega (arith, o .order₂);
-      spans = subst (SpansOf t p) (segment-same w w′ from mid (o .order) (omega (arith, o .order₁, o .order₂)) (omega (arith, o .order₁, o .order₂)) (λ i k. sym (below i (omega (arith, o .order₁))))) (o .spans);
-      pieces = subst (PiecesOf t p) (pieces-same ((to - mid) / 3) w w′ mid mid (λ i k. sym (below (mid + i) (omega (arith, o .order₁))))) (o .pieces);
+      order₂ = o .order₂;
+      order₃ = omega (arith, o .order₃);
+      spans = subst (SpansOf t p) (same from mid (o .order) (omega (arith, o .order₁, o .order₂))) (o .spans);
+      pieces = subst (PiecesOf t p) (pieces-same ((rows - mid) / 3) w w′ mid mid (λ i k. sym (below (mid + i) (omega (arith, o .order₁, o .order₂))))) (o .pieces);
+      rowsOf = subst (λ (x : List ℕ). RowsOf t p (planRowsAt x 0 ((to - rows) / 7)) (length (covers t p))) (same rows to (o .order₂) (omega arith)) (o .rowsOf);
+      whole = o .whole;
     }
   where
     below : (i : ℕ) → i < to → getD w′ i 0 ≡ getD w i 0
     below i k = same-below c w w′ e i (omega arith)
 
--- ---- written: the spans from `at` on, and then the pieces
+    same : (x y : ℕ) → x ≤ y → y ≤ to → segment w x y ≡ segment w′ x y
+    same x y j k = segment-same w w′ x y j (omega (arith, o .order₃)) (omega (arith, o .order₃)) (λ i m. sym (below i (omega arith)))
+
+-- ---- written: the spans from `at` on, then the pieces, then the rows, whose words are vs
 
 module _ (t : Table) (p m : ℕ) (rs : List Row) (rowsOf : RowsOf t p rs m) (few : m ≤ 256) (ws : List ℕ) (o : SpansOf t p ws) (short : length ws ≤ rangesListed t p) (low : ℕ) (el : low ≡ lowest (pointAt t p)) (at : ℕ) (l : List ℕ)
     (room : at + pointNeed t p ≤ length l) where
@@ -135,16 +143,52 @@ module _ (t : Table) (p m : ℕ) (rs : List Row) (rowsOf : RowsOf t p rs m) (few
           ap₂ (λ (x : List ℕ) (n : ℕ). piecesAt x mid n) e₂ z
           ∙ pieces-back qs (all-map (λ q. q .part < length (covers t p)) Small (λ q h. omega (arith, h, rowsOf .parts)) qs (whole .parts)) mid l₁ pieces-room
 
-      pub planned : PointPlan t p l₂ at mid end
-      planned = record { order = omega arith; order₁ = omega arith; order₂ = omega (arith, long₂, pieces-room); spans = subst (SpansOf t p) (sym first) o; pieces = subst (PiecesOf t p) (sym second) whole }
-
-      pub kept-below : take at l₂ ≡ take at l
-      kept-below =
+      kept₂ : take at l₂ ≡ take at l
+      kept₂ =
           ap (take at) (e₂ ∙ ap₂ (λ (a : ℕ) (x : List ℕ). put a (pieceWords qs) x) em e₁ ∙ put-next at (length ws) ws (pieceWords qs) l refl (omega arith))
           ∙ take-put at (ws ++ pieceWords qs) l (omega arith)
 
-      pub ends-few : end ≤ at + pointNeed t p
-      ends-few = omega (arith, pieces-number)
+      module _ (vs : List ℕ) (n : ℕ) (long : length vs ≡ 7 * n) (number : length rs ≡ n) (back : planRowsAt vs 0 n ≡ map unbinned rs) where
+        -- there is room for the rows
+        pub rows-room : end + 7 * n ≤ length l₂
+        rows-room = omega (arith, long₁, long₂, pieces-number, rowsOf .few)
+
+        module _ (to : ℕ) (l₃ : List ℕ) (et : to ≡ end + 7 * n) (e₃ : l₃ ≡ put end vs l₂) where
+          long₃ : length l₃ ≡ length l₂
+          long₃ = ap length e₃ ∙ length-put end vs l₂ (omega (arith, rows-room))
+
+          below : (i : ℕ) → i < end → getD l₃ i 0 ≡ getD l₂ i 0
+          below i h = ap (λ (x : List ℕ). getD x i 0) e₃ ∙ put-before end vs l₂ i 0 (omega (arith, rows-room)) h
+
+          third : segment l₃ end to ≡ vs
+          third =
+              ap₂ (λ (k : ℕ) (x : List ℕ). take k (drop end x)) (let z : to - end ≡ 7 * n = omega arith in z) e₃
+              ∙ part-put end (7 * n) vs l₂ long (omega (arith, rows-room))
+
+          rowsThere : RowsOf t p (planRowsAt (segment l₃ end to) 0 ((to - end) / 7)) (length (covers t p))
+          rowsThere =
+              subst (λ (xs : List Row). RowsOf t p xs (length (covers t p)))
+              (sym (ap₂ (λ (x : List ℕ) (k : ℕ). planRowsAt x 0 k) third (let z : (to - end) / 7 ≡ n = omega arith in z) ∙ back))
+              (unbinned-rows t p m rs rowsOf)
+
+          pub planned : PointPlan t p l₃ at mid end to
+          planned =
+              record {
+                order = omega arith;
+                order₁ = omega arith;
+                order₂ = omega arith;
+                order₃ = omega (arith, long₃, rows-room);
+                spans = subst (SpansOf t p) (sym (segment-same l₃ l₂ at mid (omega arith) (omega (arith, long₃, rows-room)) (omega (arith, rows-room)) (λ i h. below i (omega arith)) ∙ first)) o;
+                pieces = subst (PiecesOf t p) (sym (pieces-same ((end - mid) / 3) l₃ l₂ mid mid (λ i h. below (mid + i) (omega arith)) ∙ second)) whole;
+                rowsOf = rowsThere;
+                whole = omega arith;
+              }
+
+          pub kept-below : take at l₃ ≡ take at l
+          kept-below = sym (take-take at end l₃ (omega arith)) ∙ ap (take at) (ap (take end) e₃ ∙ take-put end vs l₂ (omega (arith, rows-room))) ∙ take-take at end l₂ (omega arith) ∙ kept₂
+
+          pub ends-few : to ≤ at + pointNeed t p
+          ends-few = omega (arith, pieces-number, rowsOf .few)
 
 -- ---- words copied
 

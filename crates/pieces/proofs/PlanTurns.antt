@@ -44,13 +44,13 @@ module _ (t : Table) (n p at : ℕ) (h : p < n) (room : at + needFrom t p (n - p
   pub need-next : (end : ℕ) → end ≤ at + pointNeed t p → end + needFrom t (p + 1) (n - (p + 1)) ≤ planNeed t
   need-next end e = omega (arith, one-more)
 
-sum-need : (t : Table) (ps : List ℕ) → sumOf (pointNeed t) ps ≡ 4 * sumOf (rangesListed t) ps + 3 * sumOf (λ p. length (covers t p)) ps + 3 * length ps
+sum-need : (t : Table) (ps : List ℕ) → sumOf (pointNeed t) ps ≡ 11 * sumOf (rangesListed t) ps + 3 * sumOf (λ p. length (covers t p)) ps + 10 * length ps
 unfolding sumOf
 sum-need t [] = refl
 sum-need t (p ∷ ps) = omega (arith, sum-need t ps)
 
 module _ (s : List ℕ) (ok : accepted s ≡ true) where
-  pub plan-fits : planNeed (tableOf s) ≤ 4 * recordCount s 2 + 3 * sumOf (λ p. length (covers (tableOf s) p)) (upFrom 0 (pointTotal (tableOf s))) + 3 * pointTotal (tableOf s)
+  pub plan-fits : planNeed (tableOf s) ≤ 11 * recordCount s 2 + 3 * sumOf (λ p. length (covers (tableOf s) p)) (upFrom 0 (pointTotal (tableOf s))) + 10 * pointTotal (tableOf s)
   unfolding planNeed
   plan-fits = omega (arith, sum-need (tableOf s) (upFrom 0 (pointTotal (tableOf s))), ranges-listed s ok (pointTotal (tableOf s)), length-upFrom 0 (pointTotal (tableOf s)))
 
@@ -59,51 +59,76 @@ module _ (s : List ℕ) (ok : accepted s ≡ true) where
   covers-most zero i h = omega arith
   covers-most (suc n) i h = omega (arith, few-covers s ok i (omega arith), covers-most n (suc i) (omega arith))
 
-  pub plan-need : planNeed (tableOf s) ≤ 16432
+  pub plan-need : planNeed (tableOf s) ≤ 23712
   plan-need = omega (arith, plan-fits, ranges-most s ok, covers-most (pointTotal (tableOf s)) 0 (omega arith), few-points s ok)
 
   -- at point p
   pub turn-room : (n p at : ℕ) → n ≡ pointTotal (tableOf s) → p < n → at + needFrom (tableOf s) p (n - p) ≤ planNeed (tableOf s)
-      → (p < pointTotal (tableOf s)) × (p < 16) × (at + pointNeed (tableOf s) p ≤ planNeed (tableOf s)) × (planNeed (tableOf s) ≤ 16432)
+      → (p < pointTotal (tableOf s)) × (p < 16) × (at + pointNeed (tableOf s) p ≤ planNeed (tableOf s)) × (planNeed (tableOf s) ≤ 23712)
   turn-room n p at e h room = (omega arith, omega (arith, few-points s ok), need-here (tableOf s) n p at h room, plan-need)
 
 -- ---- the first n points are planned, below c
 
 abbrev pub PlannedTo : Table → ℕ → List ℕ → List ℕ → ℕ → Type 0
-PlannedTo t n w bounds c = (q : ℕ) → q < n → PointPlan t q w (getD bounds (2 * q) 0) (getD bounds (2 * q + 1) 0) (getD bounds (2 * q + 2) 0) × (getD bounds (2 * q + 2) 0 ≤ c)
+PlannedTo t n w bounds c =
+    (q : ℕ) → q < n → PointPlan t q w (getD bounds (3 * q) 0) (getD bounds (3 * q + 1) 0) (getD bounds (3 * q + 2) 0) (getD bounds (3 * q + 3) 0) × (getD bounds (3 * q + 3) 0 ≤ c)
 
-pub planned-turn : (t : Table) (p : ℕ) (w w′ bounds : List ℕ) (at mid end : ℕ) → PlannedTo t p w bounds at → getD bounds (2 * p) 0 ≡ at → PointPlan t p w′ at mid end → take at w′ ≡ take at w → length w′ ≡ length w → 2 * p + 2 < length bounds
-    → PlannedTo t (p + 1) w′ (set (set bounds (2 * p + 1) mid) (2 * p + 2) end) end
-planned-turn t p w w′ bounds at mid end done start o e el fit q h = go (ltb q p) refl
-  where
-    b : List ℕ
-    b = set (set bounds (2 * p + 1) mid) (2 * p + 2) end
+-- the bounds with those of point p
+abbrev pub bounded : List ℕ → ℕ → ℕ → ℕ → ℕ → List ℕ
+bounded bounds p mid rows end = set (set (set bounds (3 * p + 1) mid) (3 * p + 2) rows) (3 * p + 3) end
 
-    low : (i : ℕ) → i ≤ 2 * p → getD b i 0 ≡ getD bounds i 0
-    low i k = getD-set-other (set bounds (2 * p + 1) mid) (2 * p + 2) i end 0 (λ z. omega arith) ∙ getD-set-other bounds (2 * p + 1) i mid 0 (λ z. omega arith)
+module _ (p : ℕ) (bounds : List ℕ) (mid rows end : ℕ) (fit : 3 * p + 3 < length bounds) where
+  b₁ : List ℕ
+  b₁ = set bounds (3 * p + 1) mid
 
-    go : (c : Bool) → ltb q p ≡ c → PointPlan t q w′ (getD b (2 * q) 0) (getD b (2 * q + 1) 0) (getD b (2 * q + 2) 0) × (getD b (2 * q + 2) 0 ≤ end)
-    go true y =
-        let k = ltb-true q p y in
-        let was = done q k in (
-          rw (low (2 * q) (omega arith), low (2 * q + 1) (omega arith), low (2 * q + 2) (omega arith)) (plan-kept t q w w′ (getD bounds (2 * q) 0) (getD bounds (2 * q + 1) 0) (getD bounds (2 * q + 2) 0) at (was .0) (was .1) el e),
-          omega (arith, low (2 * q + 2) (omega arith), was .1, o .order, o .order₁),
-        )
-    go false y =
-        let same : q ≡ p = omega (arith, ltb-false q p y) in
-        let b₀ : getD b (2 * q) 0 ≡ at = ap (λ (x : ℕ). getD b (2 * x) 0) same ∙ low (2 * p) (omega arith) ∙ start in
-        let b₁ : getD b (2 * q + 1) 0 ≡ mid = ap (λ (x : ℕ). getD b (2 * x + 1) 0) same ∙ getD-set-other (set bounds (2 * p + 1) mid) (2 * p + 2) (2 * p + 1) end 0 (λ z. omega arith) ∙ getD-set-same bounds (2 * p + 1) mid 0 (omega arith) in
-        let b₂ : getD b (2 * q + 2) 0 ≡ end = ap (λ (x : ℕ). getD b (2 * x + 2) 0) same ∙ getD-set-same (set bounds (2 * p + 1) mid) (2 * p + 2) end 0 (simp length-set (omega arith)) in
-        (rw (b₀, b₁, b₂, same) o, omega (arith, b₂))
+  b₂ : List ℕ
+  b₂ = set b₁ (3 * p + 2) rows
 
-pub first-start : (bounds : List ℕ) → 33 ≤ length bounds → getD (set bounds 0 0) (2 * 0) 0 ≡ 0
-first-start bounds h = ap (λ (x : ℕ). getD (set bounds 0 0) x 0) (let z : 2 * 0 ≡ 0 = omega arith in z) ∙ getD-set-same bounds 0 0 0 (omega arith)
+  bound-before : (i : ℕ) → i ≤ 3 * p → getD (bounded bounds p mid rows end) i 0 ≡ getD bounds i 0
+  unfolding b₁ b₂
+  bound-before i k = getD-set-other b₂ (3 * p + 3) i end 0 (λ z. omega arith) ∙ getD-set-other b₁ (3 * p + 2) i rows 0 (λ z. omega arith) ∙ getD-set-other bounds (3 * p + 1) i mid 0 (λ z. omega arith)
 
--- where the next point's words begin
-pub next-start : (p : ℕ) (bounds : List ℕ) (mid end : ℕ) → 2 * p + 2 < length bounds → getD (set (set bounds (2 * p + 1) mid) (2 * p + 2) end) (2 * (p + 1)) 0 ≡ end
-next-start p bounds mid end fit =
-    ap (λ (x : ℕ). getD (set (set bounds (2 * p + 1) mid) (2 * p + 2) end) x 0) (let z : 2 * (p + 1) ≡ 2 * p + 2 = omega arith in z)
-    ∙ getD-set-same (set bounds (2 * p + 1) mid) (2 * p + 2) end 0 (simp length-set (omega arith))
+  bound-mid : getD (bounded bounds p mid rows end) (3 * p + 1) 0 ≡ mid
+  unfolding b₁ b₂
+  bound-mid = getD-set-other b₂ (3 * p + 3) (3 * p + 1) end 0 (λ z. omega arith) ∙ getD-set-other b₁ (3 * p + 2) (3 * p + 1) rows 0 (λ z. omega arith) ∙ getD-set-same bounds (3 * p + 1) mid 0 (omega arith)
+
+  bound-rows : getD (bounded bounds p mid rows end) (3 * p + 2) 0 ≡ rows
+  unfolding b₁ b₂
+  bound-rows = getD-set-other b₂ (3 * p + 3) (3 * p + 2) end 0 (λ z. omega arith) ∙ getD-set-same b₁ (3 * p + 2) rows 0 (simp length-set (omega arith))
+
+  bound-end : getD (bounded bounds p mid rows end) (3 * p + 3) 0 ≡ end
+  unfolding b₁ b₂
+  bound-end = getD-set-same b₂ (3 * p + 3) end 0 (simp length-set (omega arith))
+
+  -- where the next point's words begin
+  pub next-start : getD (bounded bounds p mid rows end) (3 * (p + 1)) 0 ≡ end
+  next-start = ap (λ (x : ℕ). getD (bounded bounds p mid rows end) x 0) (let z : 3 * (p + 1) ≡ 3 * p + 3 = omega arith in z) ∙ bound-end
+
+  pub planned-turn : (t : Table) (w w′ : List ℕ) (at : ℕ) → PlannedTo t p w bounds at → getD bounds (3 * p) 0 ≡ at → PointPlan t p w′ at mid rows end → take at w′ ≡ take at w → length w′ ≡ length w
+      → PlannedTo t (p + 1) w′ (bounded bounds p mid rows end) end
+  planned-turn t w w′ at done start o e el q h = go (ltb q p) refl
+    where
+      b : List ℕ
+      b = bounded bounds p mid rows end
+
+      go : (c : Bool) → ltb q p ≡ c → PointPlan t q w′ (getD b (3 * q) 0) (getD b (3 * q + 1) 0) (getD b (3 * q + 2) 0) (getD b (3 * q + 3) 0) × (getD b (3 * q + 3) 0 ≤ end)
+      go true y =
+          let k = ltb-true q p y in
+          let was = done q k in
+          let low : (i : ℕ) → i ≤ 3 → getD b (3 * q + i) 0 ≡ getD bounds (3 * q + i) 0 = λ i j. bound-before (3 * q + i) (omega arith) in (
+            rw (bound-before (3 * q) (omega arith), low 1 (omega arith), low 2 (omega arith), low 3 (omega arith)) (plan-kept t q w w′ (getD bounds (3 * q) 0) (getD bounds (3 * q + 1) 0) (getD bounds (3 * q + 2) 0) (getD bounds (3 * q + 3) 0) at (was .0) (was .1) el e),
+            omega (arith, low 3 (omega arith), was .1, o .order, o .order₁, o .order₂),
+          )
+      go false y =
+          let same : q ≡ p = omega (arith, ltb-false q p y) in
+          let c₀ : getD b (3 * q) 0 ≡ at = ap (λ (x : ℕ). getD b (3 * x) 0) same ∙ bound-before (3 * p) (omega arith) ∙ start in
+          let c₁ : getD b (3 * q + 1) 0 ≡ mid = ap (λ (x : ℕ). getD b (3 * x + 1) 0) same ∙ bound-mid in
+          let c₂ : getD b (3 * q + 2) 0 ≡ rows = ap (λ (x : ℕ). getD b (3 * x + 2) 0) same ∙ bound-rows in
+          let c₃ : getD b (3 * q + 3) 0 ≡ end = ap (λ (x : ℕ). getD b (3 * x + 3) 0) same ∙ bound-end in
+          (rw (c₀, c₁, c₂, c₃, same) o, omega (arith, c₃))
+
+pub first-start : (bounds : List ℕ) → 49 ≤ length bounds → getD (set bounds 0 0) (3 * 0) 0 ≡ 0
+first-start bounds h = ap (λ (x : ℕ). getD (set bounds 0 0) x 0) (let z : 3 * 0 ≡ 0 = omega arith in z) ∙ getD-set-same bounds 0 0 0 (omega arith)
 
 pub all-planned : (t : Table) (n : ℕ) (w bounds : List ℕ) (c : ℕ) → PlannedTo t n w bounds c → n ≡ pointTotal t → ValuesPlan t w bounds
 unfolding ValuesPlan

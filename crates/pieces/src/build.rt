@@ -1,6 +1,7 @@
-// The plan of the values of a table, built: of each point its excluded spans and then its pieces.
+// The plan of the values of a table, built: of each point its excluded spans, its pieces and its rows.
 use crate::cuts::put_pieces;
 use crate::plan::limits_of;
+use crate::rows::put_plan_rows;
 use layout::layout_of;
 use parts::points::Built;
 use parts::points::put_rows;
@@ -49,9 +50,10 @@ fn put_words(out: &mut [u64], at: usize, words: &[u64]) -> usize
     at + n
 }
 
-// Where a point's pieces begin, and where they end.
+// Where a point's pieces and its rows begin, and where its plan ends.
 pub struct Ends {
     pub mid: usize,
+    pub rows: usize,
     pub end: usize,
 }
 
@@ -73,12 +75,17 @@ fn put_by_rows(
 ) -> Ends
     requires { ⌜ (accepted (now t) ≡ true) × (next .point < pointTotal (tableOf (now t))) × RowsOf (tableOf (now t)) (next .point) (rowsAt (now w) (now bins) 0 (b .rows)) (b .parts) × (b .rows ≤ 1025) × (b .parts ≤ 256) ⌝ }
     requires { ⌜ SpansOf (tableOf (now t)) (next .point) (now spans) × (length (now spans) ≤ rangesListed (tableOf (now t)) (next .point)) × (next .at + pointNeed (tableOf (now t)) (next .point) ≤ length (now plan)) ⌝ }
-    ensures { λ r. ⌜ PointPlan (tableOf (now (t .entry))) (next .point) (now (plan .exit)) (next .at) (r .mid) (r .end) × (take (next .at) (now (plan .exit)) ≡ take (next .at) (now (plan .entry))) × (r .end ≤ next .at + pointNeed (tableOf (now (t .entry))) (next .point)) ⌝ }
+    ensures { λ r. ⌜ PointPlan (tableOf (now (t .entry))) (next .point) (now (plan .exit)) (next .at) (r .mid) (r .rows) (r .end) × (take (next .at) (now (plan .exit)) ≡ take (next .at) (now (plan .entry))) × (r .end ≤ next .at + pointNeed (tableOf (now (t .entry))) (next .point)) ⌝ }
 {
     let q = limits_of(t, next.point);
     let mid = put_words(plan, next.at, spans);
-    let end = put_pieces(plan, mid, w, bins, b.rows, spans, q.low);
-    Ends { mid: mid, end: end }
+    let rows = put_pieces(plan, mid, w, bins, b.rows, spans, q.low);
+    let end = put_plan_rows(plan, rows, w, bins, b.rows, b.parts);
+    Ends {
+        mid: mid,
+        rows: rows,
+        end: end,
+    }
 }
 
 // The plan of a point. The other arrays are room for its rows and spans.
@@ -93,7 +100,7 @@ fn put_point(
 ) -> Ends
     requires { ⌜ (accepted (now t) ≡ true) × (next .point < pointTotal (tableOf (now t))) × (next .at + pointNeed (tableOf (now t)) (next .point) ≤ length (now plan)) ⌝ }
     requires { ⌜ (5 * (rangesListed (tableOf (now t)) (next .point) + 1) ≤ length (now w)) × (3 * (length (tableOf (now t) .valueBins) + 1) ≤ length (now bins)) × (rangesListed (tableOf (now t)) (next .point) ≤ length (now room)) × (length (now room) ≤ length (now sorted)) ⌝ }
-    ensures { λ r. ⌜ PointPlan (tableOf (now (t .entry))) (next .point) (now (plan .exit)) (next .at) (r .mid) (r .end) × (take (next .at) (now (plan .exit)) ≡ take (next .at) (now (plan .entry))) × (r .end ≤ next .at + pointNeed (tableOf (now (t .entry))) (next .point)) ⌝ }
+    ensures { λ r. ⌜ PointPlan (tableOf (now (t .entry))) (next .point) (now (plan .exit)) (next .at) (r .mid) (r .rows) (r .end) × (take (next .at) (now (plan .exit)) ≡ take (next .at) (now (plan .entry))) × (r .end ≤ next .at + pointNeed (tableOf (now (t .entry))) (next .point)) ⌝ }
 {
     let p = next.point;
     let b = put_rows(w, bins, room, sorted, t, p);
@@ -111,7 +118,7 @@ fn put_all(
     sorted: &mut [u64],
     t: &[u8],
 )
-    requires { ⌜ (accepted (now t) ≡ true) × (planNeed (tableOf (now t)) ≤ length (now plan)) × (33 ≤ length (now bounds)) ⌝ }
+    requires { ⌜ (accepted (now t) ≡ true) × (planNeed (tableOf (now t)) ≤ length (now plan)) × (49 ≤ length (now bounds)) ⌝ }
     requires { ⌜ (5 * (recordCount (now t) 2 + 1) ≤ length (now w)) × (3 * (recordCount (now t) 1 + 1) ≤ length (now bins)) × (recordCount (now t) 2 ≤ length (now room)) × (length (now room) ≤ length (now sorted)) ⌝ }
     ensures { λ _. ⌜ ValuesPlan (tableOf (now (t .entry))) (now (plan .exit)) (now (bounds .exit)) × (length (now (plan .exit)) ≡ length (now (plan .entry))) × (length (now (bounds .exit)) ≡ length (now (bounds .entry))) ⌝ }
 {
@@ -122,8 +129,9 @@ fn put_all(
     while p < n {
         let next = Next { point: p, at: at };
         let r = put_point(plan, w, bins, room, sorted, t, next);
-        bounds[2 * p + 1] = r.mid as u16;
-        bounds[2 * p + 2] = r.end as u16;
+        bounds[3 * p + 1] = r.mid as u16;
+        bounds[3 * p + 2] = r.rows as u16;
+        bounds[3 * p + 3] = r.end as u16;
         at = r.end;
         p += 1;
     }
@@ -131,7 +139,7 @@ fn put_all(
 
 // The same for a table of at most 64 ranges and 64 value bins.
 fn put_small(plan: &mut [u64], bounds: &mut [u16], t: &[u8])
-    requires { ⌜ (accepted (now t) ≡ true) × (planNeed (tableOf (now t)) ≤ length (now plan)) × (33 ≤ length (now bounds)) × (recordCount (now t) 2 ≤ 64) × (recordCount (now t) 1 ≤ 64) ⌝ }
+    requires { ⌜ (accepted (now t) ≡ true) × (planNeed (tableOf (now t)) ≤ length (now plan)) × (49 ≤ length (now bounds)) × (recordCount (now t) 2 ≤ 64) × (recordCount (now t) 1 ≤ 64) ⌝ }
     ensures { λ _. ⌜ ValuesPlan (tableOf (now (t .entry))) (now (plan .exit)) (now (bounds .exit)) × (length (now (plan .exit)) ≡ length (now (plan .entry))) × (length (now (bounds .exit)) ≡ length (now (bounds .entry))) ⌝ }
 {
     let mut w = [0u64; 325];
@@ -143,7 +151,7 @@ fn put_small(plan: &mut [u64], bounds: &mut [u16], t: &[u8])
 
 // The same for a table of at most 256 ranges and 256 value bins.
 fn put_medium(plan: &mut [u64], bounds: &mut [u16], t: &[u8])
-    requires { ⌜ (accepted (now t) ≡ true) × (planNeed (tableOf (now t)) ≤ length (now plan)) × (33 ≤ length (now bounds)) × (recordCount (now t) 2 ≤ 256) × (recordCount (now t) 1 ≤ 256) ⌝ }
+    requires { ⌜ (accepted (now t) ≡ true) × (planNeed (tableOf (now t)) ≤ length (now plan)) × (49 ≤ length (now bounds)) × (recordCount (now t) 2 ≤ 256) × (recordCount (now t) 1 ≤ 256) ⌝ }
     ensures { λ _. ⌜ ValuesPlan (tableOf (now (t .entry))) (now (plan .exit)) (now (bounds .exit)) × (length (now (plan .exit)) ≡ length (now (plan .entry))) × (length (now (bounds .exit)) ≡ length (now (bounds .entry))) ⌝ }
 {
     let mut w = [0u64; 1285];
@@ -155,7 +163,7 @@ fn put_medium(plan: &mut [u64], bounds: &mut [u16], t: &[u8])
 
 // The same for the largest table.
 fn put_largest(plan: &mut [u64], bounds: &mut [u16], t: &[u8])
-    requires { ⌜ (accepted (now t) ≡ true) × (planNeed (tableOf (now t)) ≤ length (now plan)) × (33 ≤ length (now bounds)) × (recordCount (now t) 2 ≤ 1024) × (recordCount (now t) 1 ≤ 512) ⌝ }
+    requires { ⌜ (accepted (now t) ≡ true) × (planNeed (tableOf (now t)) ≤ length (now plan)) × (49 ≤ length (now bounds)) × (recordCount (now t) 2 ≤ 1024) × (recordCount (now t) 1 ≤ 512) ⌝ }
     ensures { λ _. ⌜ ValuesPlan (tableOf (now (t .entry))) (now (plan .exit)) (now (bounds .exit)) × (length (now (plan .exit)) ≡ length (now (plan .entry))) × (length (now (bounds .exit)) ≡ length (now (bounds .entry))) ⌝ }
 {
     let mut w = [0u64; 5125];
@@ -172,9 +180,9 @@ fn larger(a: usize, b: usize) -> usize
     if a < b { b } else { a }
 }
 
-// The plan of all points: the words of point p from bound 2 p on, its pieces from bound 2 p + 1 to bound 2 p + 2.
+// The plan of all points: the spans of point p from bound 3 p on, its pieces from bound 3 p + 1 on, its rows from bound 3 p + 2 to bound 3 p + 3.
 pub fn put_plan(plan: &mut [u64], bounds: &mut [u16], t: &[u8])
-    requires { ⌜ (accepted (now t) ≡ true) × (planNeed (tableOf (now t)) ≤ length (now plan)) × (33 ≤ length (now bounds)) ⌝ }
+    requires { ⌜ (accepted (now t) ≡ true) × (planNeed (tableOf (now t)) ≤ length (now plan)) × (49 ≤ length (now bounds)) ⌝ }
     ensures { λ _. ⌜ ValuesPlan (tableOf (now (t .entry))) (now (plan .exit)) (now (bounds .exit)) × (length (now (plan .exit)) ≡ length (now (plan .entry))) × (length (now (bounds .exit)) ≡ length (now (bounds .entry))) ⌝ }
 {
     let l = layout_of(t);

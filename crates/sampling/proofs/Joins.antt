@@ -145,7 +145,7 @@ covers-within t (suc n) i =
 
 -- enough for the ranges of the table and the counters of its points
 pub plan-within : (s : List ℕ) → accepted s ≡ true → (l : Layout) → l ≡ layoutOf s → (starts : List ℕ) → take (pointTotal (tableOf s) + 1) starts ≡ pointStarts (tableOf s)
-    → (n : ℕ) → n ≡ pointTotal (tableOf s) → planNeed (tableOf s) ≤ 4 * l .«range_count» + 3 * (getD starts n 0 + n)
+    → (n : ℕ) → n ≡ pointTotal (tableOf s) → planNeed (tableOf s) ≤ 11 * l .«range_count» + 3 * (getD starts n 0 + n) + 7 * n
 unfolding layoutOf pointStart
 plan-within s ok l el starts e n en =
     let t = tableOf s in

@@ -35,7 +35,7 @@ fn plan_in(has: &mut [u8], marks: &mut [u16], plan: &mut [u64], t: &[u8], x: Ind
     ensures { λ _. ⌜ Tells (hasValue (tableOf (now (t .entry)))) (tableOf (now (t .entry))) (now (has .exit)) × Marked (tableOf (now (t .entry))) (now (marks .exit)) ⌝ }
 {
     let counts = x.counts;
-    let mut bounds = [0u16; 33];
+    let mut bounds = [0u16; 49];
     put_plan(plan, &mut bounds, t);
     put_has(has, t, plan, &bounds, &counts);
     mark_planned(marks, t, plan, &bounds, x);
@@ -66,7 +66,7 @@ fn largest_plan(has: &mut [u8], marks: &mut [u16], t: &[u8], x: Index)
     requires { ⌜ (256 * pointTotal (tableOf (now t)) ≤ length (now has)) × (markTotal (tableOf (now t)) ≤ length (now marks)) ⌝ }
     ensures { λ _. ⌜ Tells (hasValue (tableOf (now (t .entry)))) (tableOf (now (t .entry))) (now (has .exit)) × Marked (tableOf (now (t .entry))) (now (marks .exit)) ⌝ }
 {
-    let mut plan = [0u64; 16432];
+    let mut plan = [0u64; 23712];
     plan_in(has, marks, &mut plan, t, x);
 }
 
@@ -79,7 +79,7 @@ fn plan_words(t: &[u8], x: Index) -> usize
     let starts = x.starts;
     let n = x.points;
     let counters = starts[n] as usize;
-    4 * l.range_count + 3 * (counters + n)
+    11 * l.range_count + 3 * (counters + n) + 7 * n
 }
 
 // Which cover bins still hold a value, 256 bytes for each point, and the marks of the products of all crosses.

@@ -14,7 +14,7 @@ use Rattle.pieces.proofs.build.put_all.Tie as tie
 abbrev Inv-loop : tie.InvT-loop
 Inv-loop plan₀ bounds₀ w₀ bins₀ room₀ sorted₀ t n at₀ p₀ plan bounds w bins room sorted at p =
     (p ≤ n) × (n ≡ pointTotal (tableOf t)) × (length plan ≡ length plan₀) × (length bounds ≡ length bounds₀) × (length w ≡ length w₀) × (length bins ≡ length bins₀) × (length room ≡ length room₀) × (length sorted ≡ length sorted₀)
-    × (at + needFrom (tableOf t) p (n - p) ≤ planNeed (tableOf t)) × (getD bounds (2 * p) 0 ≡ at) × PlannedTo (tableOf t) p plan bounds at
+    × (at + needFrom (tableOf t) p (n - p) ≤ planNeed (tableOf t)) × (getD bounds (3 * p) 0 ≡ at) × PlannedTo (tableOf t) p plan bounds at
 
 abbrev μ-loop : tie.MeasureT-loop
 μ-loop plan₀ bounds₀ w₀ bins₀ room₀ sorted₀ t n at₀ p₀ plan bounds w bins room sorted at p = n - p
@@ -53,7 +53,7 @@ cast-bounds c =
     let l = c .before .before .before .before .before .before .before .before .before .before .before .before .before .before .before .before .before .before .loop in
     let h = turn-room (a .t .now) (q .0 .0) _ (l .p) (l .at) (l .inv .1) (omega arith) (l .inv .8) in
     let k = c .before .before .before .before .before .before .before .before .before .before .before .put-point .ensures in
-    omega (arith, k .2, k .0 .order₁, h .2, h .3)
+    omega (arith, k .2, k .0 .order₁, k .0 .order₂, h .2, h .3)
 
 mul-bounds : tie.Need-mul-bounds Inv-loop μ-loop
 mul-bounds c = omega arith
@@ -80,7 +80,7 @@ cast-bounds-2 c =
     let l = c .before .before .before .before .before .before .before .before .before .before .before .before .before .before .before .before .before .before .before .loop in
     let h = turn-room (a .t .now) (q .0 .0) _ (l .p) (l .at) (l .inv .1) (omega arith) (l .inv .8) in
     let k = c .before .before .before .before .before .before .before .before .before .before .before .before .put-point .ensures in
-    omega (arith, k .2, h .2, h .3)
+    omega (arith, k .2, k .0 .order₂, h .2, h .3)
 
 mul-bounds-3 : tie.Need-mul-bounds-3 Inv-loop μ-loop
 mul-bounds-3 c = omega arith
@@ -100,6 +100,33 @@ slice-write-bounds-3 c =
     let kept : length (l .bounds) ≡ length (a .bounds .now) = l .inv .3 ∙ simp length-set in
     simp length-set (omega (arith, h .1, kept, q .0 .2))
 
+cast-bounds-3 : tie.Need-cast-bounds-3 Inv-loop μ-loop
+cast-bounds-3 c =
+    let a = c .before .before .before .before .before .before .before .before .before .before .before .before .before .before .before .before .before .before .before .before .before .before .before .before .before .before .before .before .before .args in
+    let q = c .before .before .before .before .before .before .before .before .before .before .before .before .before .before .before .before .before .before .before .before .before .before .before .before .before .before .before .before .before .pre in
+    let l = c .before .before .before .before .before .before .before .before .before .before .before .before .before .before .before .before .before .before .before .before .loop in
+    let h = turn-room (a .t .now) (q .0 .0) _ (l .p) (l .at) (l .inv .1) (omega arith) (l .inv .8) in
+    let k = c .before .before .before .before .before .before .before .before .before .before .before .before .before .put-point .ensures in
+    omega (arith, k .2, h .2, h .3)
+
+mul-bounds-5 : tie.Need-mul-bounds-5 Inv-loop μ-loop
+mul-bounds-5 c = omega arith
+
+add-bounds-3 : tie.Need-add-bounds-3 Inv-loop μ-loop
+add-bounds-3 c = omega arith
+
+mul-bounds-6 : tie.Need-mul-bounds-6 Inv-loop μ-loop
+mul-bounds-6 c = omega arith
+
+slice-write-bounds-4 : tie.Need-slice-write-bounds-4 Inv-loop μ-loop
+slice-write-bounds-4 c =
+    let a = c .before .before .before .before .before .before .before .before .before .before .before .before .before .before .before .before .before .before .before .before .before .before .before .before .before .before .before .before .before .args in
+    let q = c .before .before .before .before .before .before .before .before .before .before .before .before .before .before .before .before .before .before .before .before .before .before .before .before .before .before .before .before .before .pre in
+    let l = c .before .before .before .before .before .before .before .before .before .before .before .before .before .before .before .before .before .before .before .before .loop in
+    let h = turn-room (a .t .now) (q .0 .0) _ (l .p) (l .at) (l .inv .1) (omega arith) (l .inv .8) in
+    let kept : length (l .bounds) ≡ length (a .bounds .now) = l .inv .3 ∙ simp length-set in
+    simp length-set (omega (arith, h .1, kept, q .0 .2))
+
 add-p : tie.Need-add-p Inv-loop μ-loop
 add-p c = omega arith
 
@@ -108,15 +135,15 @@ loop-less c = omega arith
 
 loop-again : tie.Need-loop-again Inv-loop μ-loop
 loop-again c =
-    let a = c .before .before .before .before .before .before .before .before .before .before .before .before .before .before .before .before .before .before .before .before .before .before .before .before .before .before .before .before .args in
-    let q = c .before .before .before .before .before .before .before .before .before .before .before .before .before .before .before .before .before .before .before .before .before .before .before .before .before .before .before .before .pre in
-    let l = c .before .before .before .before .before .before .before .before .before .before .before .before .before .before .before .before .before .before .before .loop in
+    let a = c .before .before .before .before .before .before .before .before .before .before .before .before .before .before .before .before .before .before .before .before .before .before .before .before .before .before .before .before .before .args in
+    let q = c .before .before .before .before .before .before .before .before .before .before .before .before .before .before .before .before .before .before .before .before .before .before .before .before .before .before .before .before .before .pre in
+    let l = c .before .before .before .before .before .before .before .before .before .before .before .before .before .before .before .before .before .before .before .before .loop in
     let h = turn-room (a .t .now) (q .0 .0) _ (l .p) (l .at) (l .inv .1) (omega arith) (l .inv .8) in
     let kept : length (l .bounds) ≡ length (a .bounds .now) = l .inv .3 ∙ simp length-set in
-    let k = c .before .before .before .before .before .before .before .before .before .before .before .before .put-point .ensures in
-    let w = c .before .before .before .before .before .before .before .before .before .before .before .before .put-point in
+    let k = c .before .before .before .before .before .before .before .before .before .before .before .before .before .put-point .ensures in
+    let w = c .before .before .before .before .before .before .before .before .before .before .before .before .before .put-point in
     let t = tableOf (a .t .now) in
-    let fit : 2 * l .p + 2 < length (l .bounds) = omega (arith, h .1, kept, q .0 .2) in (
+    let fit : 3 * l .p + 3 < length (l .bounds) = omega (arith, h .1, kept, q .0 .2) in (
       omega arith,
       l .inv .1,
       w .kept .0 ∙ l .inv .2,
@@ -126,8 +153,8 @@ loop-again c =
       w .kept .1 .1 .1 .0 ∙ l .inv .6,
       w .kept .1 .1 .1 .1 .0 ∙ l .inv .7,
       need-next t _ (l .p) (l .at) (omega arith) (l .inv .8) _ (k .2),
-      next-start (l .p) (l .bounds) _ _ fit,
-      planned-turn t (l .p) (l .plan) (w .last .0) (l .bounds) (l .at) _ _ (l .inv .10) (l .inv .9) (k .0) (k .1) (w .kept .0) fit,
+      next-start (l .p) (l .bounds) _ _ _ fit,
+      planned-turn (l .p) (l .bounds) _ _ _ fit t (l .plan) (w .last .0) (l .at) (l .inv .10) (l .inv .9) (k .0) (k .1) (w .kept .0),
     )
 
 same-length : tie.Need-same-length Inv-loop μ-loop
@@ -175,6 +202,11 @@ put-all-spec =
     add-bounds-2
     mul-bounds-4
     slice-write-bounds-3
+    cast-bounds-3
+    mul-bounds-5
+    add-bounds-3
+    mul-bounds-6
+    slice-write-bounds-4
     add-p
     loop-less
     loop-again

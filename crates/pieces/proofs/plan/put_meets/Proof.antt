@@ -1,3 +1,4 @@
+use mathlib.Core.Path.{refl}
 use native.Mathlib.Omega.{arith}
 use Rattle.model.specs.Format.{tableOf}
 use Rattle.model.proofs.RawExact.{few-points}
@@ -49,22 +50,22 @@ sub-put-met : tie.Need-sub-put-met
 sub-put-met c =
     let a = c .before .before .before .before .before .before .before .before .before .args in
     let q = c .before .before .before .before .before .before .before .before .before .pre in
-    let o = plan-at (tableOf (a .t .now)) (a .plan .now) (a .bounds .now) (a .q .point) _ _ _ (q .0 .2) (q .0 .1) (c .before .before .before .before .element .ensures) (c .before .before .before .element2 .ensures) (c .before .before .element3 .ensures) in
+    let o = plan-at (tableOf (a .t .now)) (a .plan .now) (a .bounds .now) (a .q .point) _ _ _ _ (q .0 .2) (q .0 .1) (c .before .before .before .before .element .ensures) (c .before .before .before .element2 .ensures) (c .before .before .element3 .ensures) refl in
     omega (arith, o .order₁)
 
 part-put-met-start : tie.Need-part-put-met-start
 part-put-met-start c =
     let a = c .before .before .before .before .before .before .before .before .before .args in
     let q = c .before .before .before .before .before .before .before .before .before .pre in
-    let o = plan-at (tableOf (a .t .now)) (a .plan .now) (a .bounds .now) (a .q .point) _ _ _ (q .0 .2) (q .0 .1) (c .before .before .before .before .element .ensures) (c .before .before .before .element2 .ensures) (c .before .before .element3 .ensures) in
-    omega (arith, o .order₁, o .order₂)
+    let o = plan-at (tableOf (a .t .now)) (a .plan .now) (a .bounds .now) (a .q .point) _ _ _ _ (q .0 .2) (q .0 .1) (c .before .before .before .before .element .ensures) (c .before .before .before .element2 .ensures) (c .before .before .element3 .ensures) refl in
+    omega (arith, o .order₁, o .order₂, o .order₃)
 
 part-put-met-end : tie.Need-part-put-met-end
 part-put-met-end c =
     let a = c .before .before .before .before .before .before .before .before .before .args in
     let q = c .before .before .before .before .before .before .before .before .before .pre in
-    let o = plan-at (tableOf (a .t .now)) (a .plan .now) (a .bounds .now) (a .q .point) _ _ _ (q .0 .2) (q .0 .1) (c .before .before .before .before .element .ensures) (c .before .before .before .element2 .ensures) (c .before .before .element3 .ensures) in
-    omega (arith, o .order₁, o .order₂)
+    let o = plan-at (tableOf (a .t .now)) (a .plan .now) (a .bounds .now) (a .q .point) _ _ _ _ (q .0 .2) (q .0 .1) (c .before .before .before .before .element .ensures) (c .before .before .before .element2 .ensures) (c .before .before .element3 .ensures) refl in
+    omega (arith, o .order₁, o .order₂, o .order₃)
 
 mul-put-met-2 : tie.Need-mul-put-met-2
 mul-put-met-2 c = search needs
@@ -73,32 +74,32 @@ sub-put-met-2 : tie.Need-sub-put-met-2
 sub-put-met-2 c =
     let a = c .before .before .before .before .before .before .before .before .before .before .args in
     let q = c .before .before .before .before .before .before .before .before .before .before .pre in
-    let o = plan-at (tableOf (a .t .now)) (a .plan .now) (a .bounds .now) (a .q .point) _ _ _ (q .0 .2) (q .0 .1) (c .before .before .before .before .before .element .ensures) (c .before .before .before .before .element2 .ensures) (c .before .before .before .element3 .ensures) in
+    let o = plan-at (tableOf (a .t .now)) (a .plan .now) (a .bounds .now) (a .q .point) _ _ _ _ (q .0 .2) (q .0 .1) (c .before .before .before .before .before .element .ensures) (c .before .before .before .before .element2 .ensures) (c .before .before .before .element3 .ensures) refl in
     omega (arith, o .order)
 
 part-put-met-start-2 : tie.Need-part-put-met-start-2
 part-put-met-start-2 c =
     let a = c .before .before .before .before .before .before .before .before .before .before .args in
     let q = c .before .before .before .before .before .before .before .before .before .before .pre in
-    let o = plan-at (tableOf (a .t .now)) (a .plan .now) (a .bounds .now) (a .q .point) _ _ _ (q .0 .2) (q .0 .1) (c .before .before .before .before .before .element .ensures) (c .before .before .before .before .element2 .ensures) (c .before .before .before .element3 .ensures) in
-    omega (arith, o .order, o .order₁, o .order₂)
+    let o = plan-at (tableOf (a .t .now)) (a .plan .now) (a .bounds .now) (a .q .point) _ _ _ _ (q .0 .2) (q .0 .1) (c .before .before .before .before .before .element .ensures) (c .before .before .before .before .element2 .ensures) (c .before .before .before .element3 .ensures) refl in
+    omega (arith, o .order, o .order₁, o .order₂, o .order₃)
 
 part-put-met-end-2 : tie.Need-part-put-met-end-2
 part-put-met-end-2 c =
     let a = c .before .before .before .before .before .before .before .before .before .before .args in
     let q = c .before .before .before .before .before .before .before .before .before .before .pre in
-    let o = plan-at (tableOf (a .t .now)) (a .plan .now) (a .bounds .now) (a .q .point) _ _ _ (q .0 .2) (q .0 .1) (c .before .before .before .before .before .element .ensures) (c .before .before .before .before .element2 .ensures) (c .before .before .before .element3 .ensures) in
-    omega (arith, o .order, o .order₁, o .order₂)
+    let o = plan-at (tableOf (a .t .now)) (a .plan .now) (a .bounds .now) (a .q .point) _ _ _ _ (q .0 .2) (q .0 .1) (c .before .before .before .before .before .element .ensures) (c .before .before .before .before .element2 .ensures) (c .before .before .before .element3 .ensures) refl in
+    omega (arith, o .order, o .order₁, o .order₂, o .order₃)
 
 put-met-requires : tie.Need-put-met-requires
 put-met-requires c κs =
     let a = c .before .before .before .before .before .before .before .before .before .before .before .args in
     let q = c .before .before .before .before .before .before .before .before .before .before .before .pre in
-    let o = plan-at (tableOf (a .t .now)) (a .plan .now) (a .bounds .now) (a .q .point) _ _ _ (q .0 .2) (q .0 .1) (c .before .before .before .before .before .before .element .ensures) (c .before .before .before .before .before .element2 .ensures) (c .before .before .before .before .element3 .ensures) in
+    let o = plan-at (tableOf (a .t .now)) (a .plan .now) (a .bounds .now) (a .q .point) _ _ _ _ (q .0 .2) (q .0 .1) (c .before .before .before .before .before .before .element .ensures) (c .before .before .before .before .before .element2 .ensures) (c .before .before .before .before .element3 .ensures) refl in
     let b = c .before .before .before .limits-of .ensures in
     let lo = in-type (tableOf (a .t .now)) (a .q .point) (a .q .lo) (q .1 .2) in
     let hi = in-type (tableOf (a .t .now)) (a .q .point) (a .q .hi) (q .1 .3) in
-    ((q .1 .1, part-few (a .plan .now) (c .before .before .before .before .before .element2 .result) (c .before .before .before .before .element3 .result) (omega arith), plan-parts (tableOf (a .t .now)) (a .q .point) (a .plan .now) _ _ _ _ o (q .1 .0)), (o .spans .gaps, omega (arith, b .0, lo .0), omega (arith, b .1, b .3, lo .1), omega (arith, b .1, b .3, hi .1)))
+    ((q .1 .1, part-few (a .plan .now) (c .before .before .before .before .before .element2 .result) (c .before .before .before .before .element3 .result) (omega arith), plan-parts (tableOf (a .t .now)) (a .q .point) (a .plan .now) _ _ _ _ _ o (q .1 .0)), (o .spans .gaps, omega (arith, b .0, lo .0), omega (arith, b .1, b .3, lo .1), omega (arith, b .1, b .3, hi .1)))
 
 same-length : tie.Need-same-length
 same-length c = search needs
@@ -107,9 +108,9 @@ returns : tie.Need-returns
 returns c =
     let a = c .before .before .before .before .before .before .before .before .before .before .before .before .before .before .args in
     let q = c .before .before .before .before .before .before .before .before .before .before .before .before .before .before .pre in
-    let o = plan-at (tableOf (a .t .now)) (a .plan .now) (a .bounds .now) (a .q .point) _ _ _ (q .0 .2) (q .0 .1) (c .before .before .before .before .before .before .before .before .before .element .ensures) (c .before .before .before .before .before .before .before .before .element2 .ensures) (c .before .before .before .before .before .before .before .element3 .ensures) in
+    let o = plan-at (tableOf (a .t .now)) (a .plan .now) (a .bounds .now) (a .q .point) _ _ _ _ (q .0 .2) (q .0 .1) (c .before .before .before .before .before .before .before .before .before .element .ensures) (c .before .before .before .before .before .before .before .before .element2 .ensures) (c .before .before .before .before .before .before .before .element3 .ensures) refl in
     let b = c .before .before .before .before .before .before .limits-of .ensures in
-    c .before .before .put-met .ensures (tableOf (a .t .now)) (a .q .point) (plan-asked (tableOf (a .t .now)) (a .q .point) (a .plan .now) _ _ _ _ _ _ _ o (b .0) (q .1 .2) (q .1 .3) (q .1 .0))
+    c .before .before .put-met .ensures (tableOf (a .t .now)) (a .q .point) (plan-asked (tableOf (a .t .now)) (a .q .point) (a .plan .now) _ _ _ _ _ _ _ _ o (b .0) (q .1 .2) (q .1 .3) (q .1 .0))
 
 pub put-meets-spec : {M : Type 1} → statement M
 put-meets-spec =

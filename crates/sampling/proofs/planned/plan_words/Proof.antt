@@ -51,6 +51,22 @@ add-result-2 c =
     let few = start-few (a .t .now) (p .0) (a .x .starts) (x .starts) (a .x .points) (x .points) in
     omega (arith, few, x .points, gate-room (a .t .now) (p .0), c .before .before .layout-of .ensures .1 .range-count)
 
+mul-result-3 : tie.Need-mul-result-3
+mul-result-3 c =
+    let a = c .before .before .before .before .args in
+    let p = c .before .before .before .before .pre in
+    let x = p .1 in
+    let few = start-few (a .t .now) (p .0) (a .x .starts) (x .starts) (a .x .points) (x .points) in
+    omega (arith, few, x .points, gate-room (a .t .now) (p .0), c .before .before .layout-of .ensures .1 .range-count)
+
+add-result-3 : tie.Need-add-result-3
+add-result-3 c =
+    let a = c .before .before .before .before .args in
+    let p = c .before .before .before .before .pre in
+    let x = p .1 in
+    let few = start-few (a .t .now) (p .0) (a .x .starts) (x .starts) (a .x .points) (x .points) in
+    omega (arith, few, x .points, gate-room (a .t .now) (p .0), c .before .before .layout-of .ensures .1 .range-count)
+
 returns : tie.Need-returns
 returns c =
     let a = c .before .before .before .before .args in
@@ -71,4 +87,6 @@ plan-words-spec =
     add-result
     mul-result-2
     add-result-2
+    mul-result-3
+    add-result-3
     returns)
