@@ -14,6 +14,7 @@ use lib.ListN.{length, getD, take, drop, drop-of-length-le, length-take}
 use Rattle.model.specs.Lists.{oneOf, asBit}
 use Rattle.model.proofs.Readers.{All}
 use Rattle.model.proofs.Booleans.{false-true, and-left, and-right}
+use Rattle.arrays.proofs.Written.{Written, written-room}
 use Rattle.places.specs.Places.{placeIf, placesFrom, ascending}
 
 -- one list after the other
@@ -96,19 +97,20 @@ module _ {A : Type 0} (f : A → Bool) (n : ℕ) (xs : List A) where
 
 -- ---- flags, and kinds
 
-pub one-place : (b : Bool) (n : ℕ) → length (placeIf b n) ≤ 1
-one-place true n = omega arith
-one-place false n = omega arith
+pub place-room : (at n : ℕ) (b : Bool) (l : List ℕ) → b ≡ true → at + length (placeIf b n) ≤ length l → at < length l
+place-room at n true l e h = omega arith
+place-room at n false l e h = absurd (false-true e)
 
 module _ (f : ℕ → Bool) (base n : ℕ) (flags : List ℕ) where
-  -- there is room for them where there is for n
-  pub set-fits : (out : List ℕ) → n ≤ length out → 0 + length (placesFrom f base (take n flags)) ≤ length out
-  set-fits out h = omega (arith, places-few f base (take n flags), length-take n flags)
-
   pub set-turn : (i : ℕ) → i < n → n ≤ length flags → placesFrom f (base + i) (drop i (take n flags)) ≡ placeIf (f (getD flags i 0)) (base + i) ++ placesFrom f (base + (i + 1)) (drop (i + 1) (take n flags))
   set-turn i h k =
       places-turn f base (take n flags) 0 i (omega (arith, length-take n flags))
       ∙ ap (λ (x : ℕ). placeIf (f x) (base + i) ++ placesFrom f (base + (i + 1)) (drop (i + 1) (take n flags))) (getD-take n flags i 0 h)
+
+  -- the next fits where all do
+  pub turn-room : (i c : ℕ) (out₀ out : List ℕ) → i < n → n ≤ length flags → length (placesFrom f base (take n flags)) ≤ length out₀
+      → Written 0 (placesFrom f base (take n flags)) out₀ c out (placesFrom f (base + i) (drop i (take n flags))) → c + length (placeIf (f (getD flags i 0)) (base + i)) ≤ length out
+  turn-room i c out₀ out h k fit inv = written-room 0 (placesFrom f base (take n flags)) out₀ c out (placesFrom f (base + i) (drop i (take n flags))) inv (omega arith) (placeIf (f (getD flags i 0)) (base + i)) (placesFrom f (base + (i + 1)) (drop (i + 1) (take n flags))) (set-turn i h k)
 
 -- ---- in ascending order
 

@@ -47,9 +47,28 @@ isCoverCounter c = eqb (kindOf c) 0
 unfoldable pub coverPlaces : Table → ℕ → List ℕ
 coverPlaces t p = placesFrom isCoverCounter (pointStart t p) (pointCounters t p)
 
--- the array has them: those of point p stand from 256 p on
-unfoldable pub CoverPlaces : Table → List ℕ → Type 0
-CoverPlaces t a = (p k : ℕ) → p < pointTotal t → k < length (covers t p) → getD a (256 * p + k) 0 ≡ getD (coverPlaces t p) k 0
+-- a default bin or an illegal value bin
+abbrev pub isPlain : Counter → Bool
+isPlain c = ofKind 1 (kindOf c)
+
+-- the places of a point's plain bins
+unfoldable pub plainPlaces : Table → ℕ → List ℕ
+plainPlaces t p = placesFrom isPlain (pointStart t p) (pointCounters t p)
+
+-- A point's row has 258 elements: how many plain bins and how many cover bins it has, the places of its cover bins, then those of its plain bins.
+pub record PlaceRow (t : Table) (p : ℕ) (a : List ℕ) : Type 0 where
+  pub plains : getD a 0 0 ≡ length (plainPlaces t p)
+  pub parts : getD a 1 0 ≡ length (covers t p)
+  pub ofCovers : (k : ℕ) → k < length (covers t p) → getD a (2 + k) 0 ≡ getD (coverPlaces t p) k 0
+  pub ofPlains : take (length (plainPlaces t p)) (drop (2 + length (covers t p)) a) ≡ plainPlaces t p
+
+-- one row after another
+unfoldable pub PlaceRows : Table → List ℕ → Type 0
+PlaceRows t a = (p : ℕ) → p < pointTotal t → PlaceRow t p (drop (258 * p) a)
+
+-- the places of all illegal counters
+unfoldable pub illegalPlaces : Table → List ℕ
+illegalPlaces t = placesFrom (λ c. ofKind 2 (kindOf c)) 0 (counters t)
 
 -- ---- the cover bins of a point
 

@@ -6,13 +6,13 @@ use lib.ListN.{length, take, drop, getD, length-take}
 use lib.Seq.{getD-take, length-take-le}
 use Rattle.arrays.proofs.Written.{Written, written-start, written-turn, written-end}
 use Rattle.places.specs.Places.{isSet, placeIf, placesFrom}
-use Rattle.places.proofs.PlaceLaws.{places-start, places-end, one-place, set-fits, set-turn}
+use Rattle.places.proofs.PlaceLaws.{places-start, places-end, set-turn, turn-room}
 use Rattle.places.proofs.put_set.Statement.{statement}
 use Rattle.places.proofs.put_set.Tie as tie
 
 abbrev Inv-loop : tie.InvT-loop
 Inv-loop out₀ flags n base c₀ i₀ out c i =
-    (i ≤ n) × (c ≤ i) × Written 0 (placesFrom isSet base (take n flags)) out₀ c out (placesFrom isSet (base + i) (drop i (take n flags)))
+    (i ≤ n) × Written 0 (placesFrom isSet base (take n flags)) out₀ c out (placesFrom isSet (base + i) (drop i (take n flags)))
 
 abbrev μ-loop : tie.MeasureT-loop
 μ-loop out₀ flags n base c₀ i₀ out c i = n - i
@@ -20,7 +20,7 @@ abbrev μ-loop : tie.MeasureT-loop
 loop-holds : tie.Need-loop-holds Inv-loop μ-loop
 loop-holds c =
     let a = c .before .before .args in
-    (omega arith, omega arith, written-start 0 (placesFrom isSet (a .base) (take (a .n) (a .flags .now))) _ (a .out .now) (places-start isSet (a .base) (take (a .n) (a .flags .now))))
+    (omega arith, written-start 0 (placesFrom isSet (a .base) (take (a .n) (a .flags .now))) _ (a .out .now) (places-start isSet (a .base) (take (a .n) (a .flags .now))))
 
 shared-slice-read-put-if : tie.Need-shared-slice-read-put-if Inv-loop μ-loop
 shared-slice-read-put-if c = omega arith
@@ -30,8 +30,10 @@ add-put-if c = omega arith
 
 put-if-requires : tie.Need-put-if-requires Inv-loop μ-loop
 put-if-requires c κs =
+    let a = c .before .before .before .before .before .before .args in
+    let pre = c .before .before .before .before .before .before .pre in
     let l = c .before .before .before .loop in
-    (omega (arith, l .inv .1, l .inv .2 .kept, c .before .before .before .before .before .before .pre .0), omega arith)
+    (turn-room isSet (a .base) (a .n) (a .flags .now) (l .i) (l .c) (a .out .now) (l .out) (omega arith) (pre .0) (pre .1) (l .inv .1), omega arith)
 
 add-i : tie.Need-add-i Inv-loop μ-loop
 add-i c = omega arith
@@ -42,21 +44,19 @@ loop-less c = omega arith
 loop-again : tie.Need-loop-again Inv-loop μ-loop
 loop-again c =
     let a = c .before .before .before .before .before .before .before .before .before .args in
+    let pre = c .before .before .before .before .before .before .before .before .before .pre in
     let l = c .before .before .before .before .before .before .loop in
     let q = c .before .before .put-if in
-    let fs = a .flags .now in
-    let whole = placesFrom isSet (a .base) (take (a .n) fs) in
-    let few = set-fits isSet (a .base) (a .n) fs (a .out .now) (c .before .before .before .before .before .before .before .before .before .pre .1) in
-    (omega arith, omega (arith, l .inv .1, q .ensures .0, one-place (isSet (getD fs (l .i) 0)) (a .base + l .i)), written-turn 0 whole (a .out .now) (l .c) (l .out) _ (l .inv .2) few _ _ (set-turn isSet (a .base) (a .n) fs (l .i) (omega arith) (c .before .before .before .before .before .before .before .before .before .pre .0)) (q .result) (q .last .0) (q .ensures .0) (q .ensures .1))
+    (omega arith, written-turn 0 _ (a .out .now) (l .c) (l .out) _ (l .inv .1) (omega (arith, pre .1)) _ _ (set-turn isSet (a .base) (a .n) (a .flags .now) (l .i) (omega arith) (pre .0)) (q .result) (q .last .0) (q .ensures .0) (q .ensures .1))
 
 same-length : tie.Need-same-length Inv-loop μ-loop
-same-length c = c .before .loop .inv .2 .kept
+same-length c = c .before .loop .inv .1 .kept
 
 returns : tie.Need-returns Inv-loop μ-loop
 returns c =
     let a = c .before .before .before .before .args in
     let l = c .before .loop in
-    let e = written-end 0 (placesFrom isSet (a .base) (take (a .n) (a .flags .now))) (a .out .now) (l .c) (l .out) _ (l .inv .2) (places-end isSet (a .base) (take (a .n) (a .flags .now)) (l .i) (omega (arith, length-take (a .n) (a .flags .now)))) in
+    let e = written-end 0 (placesFrom isSet (a .base) (take (a .n) (a .flags .now))) (a .out .now) (l .c) (l .out) _ (l .inv .1) (places-end isSet (a .base) (take (a .n) (a .flags .now)) (l .i) (omega (arith, length-take (a .n) (a .flags .now)))) in
     (omega (arith, e .0), e .1)
 
 pub put-set-spec : {M : Type 1} → statement M
