@@ -6,3 +6,4 @@ pub mod Whole
 pub mod WriteLaws
 pub mod RaiseLaws
 pub mod SeekLaws
+pub mod ReportLaws
