@@ -3,22 +3,24 @@
 use mathlib.Core.Path.{_≡_, refl, sym, ap, ap₂, _∙_}
 use mathlib.Core.Bool.{Bool, true, false, cond}
 use mathlib.Core.List.{List, [], _∷_}
-use Prim.Native.Nat.{ℕ, suc, _+_, _-_, _≤_, _<_}
+use Prim.Native.Nat.{ℕ, zero, suc, _+_, _-_, _≤_, _<_}
 use native.Mathlib.Nat.{zero-add}
 use native.Mathlib.Numerals.{add-one}
 use native.Mathlib.Omega.{arith}
-use lib.ListN.{length, take, drop, getD, set, length-set, drop-of-length-le}
+use lib.ListN.{length, take, drop, getD, set, length-set, length-drop, drop-of-length-le}
 use lib.Dec.{eqb}
-use lib.Seq.{drop-set-lt, getD-set-same, getD-set-other, ext-getD}
-use borrow.Author.Tests.{eqb-true, eqb-false}
-use Rattle.model.specs.Lists.{pairUp, asBit}
+use lib.Seq.{drop-set-lt, getD-set-same, getD-set-other, ext-getD, getD-take, getD-drop, length-take-le, take-length}
+use borrow.Author.Tests.{eqb-true, eqb-false, ltb-true}
+use Rattle.model.specs.Lists.{all, pairUp, asBit}
+use Rattle.model.proofs.Booleans.{and-left, and-right}
 use Rattle.model.proofs.Readers.{All}
 use Rattle.model.proofs.Lists.{head-tail}
 use Rattle.arrays.specs.Put.{put}
 use Rattle.arrays.proofs.PutLaws.{put-nil, put-cons}
 use Rattle.places.specs.Places.{ascending, isSet, placesFrom}
 use Rattle.places.proofs.PlaceLaws.{ascending-head, ascending-tail, ascending-from}
-use Rattle.samples.specs.Adds.{addHits}
+use Rattle.samples.specs.Adds.{addHits, hasRoom, allRoom}
+use Rattle.samples.specs.Writes.{Countable}
 use Rattle.samples.specs.Raises.{raiseEach, Raisable}
 
 -- ---- one turn
@@ -121,3 +123,42 @@ raise-flags at n (f ∷ fs) w h =
     first-flag at n (isSet f) fs w (omega arith) (λ v. raise-flags at (suc n) fs (set w (at + n) v) (simp length-set (omega arith)))
     ∙ put-cons (at + n) (asBit (isSet f) + getD w (at + n) 0) (risen at (suc n) fs w) w (omega arith)
     ∙ ap (λ (z : List ℕ). put (at + n) z w) (sym (one-more at n f fs w (omega arith)))
+
+-- ---- after the sample word
+
+room-at : (ns : List ℕ) (x : ℕ) → x < length ns → allRoom ns ≡ true → getD ns x 0 < 4294967295
+unfolding allRoom all
+room-at [] x h e = absurd (omega arith)
+room-at (n ∷ ns) zero h e = ltb-true n 4294967295 (and-left (hasRoom n) (all hasRoom ns) e)
+room-at (n ∷ ns) (suc x) h e = room-at ns x (omega arith) (and-right (hasRoom n) (all hasRoom ns) e)
+
+module _ (k p : ℕ) (w : List ℕ) (ok : Countable k p w) (v : ℕ) where
+  first : List ℕ
+  first = set w 1 v
+
+  one-room : (x : ℕ) → x < k → getD first (2 + x) 0 < 4294967295
+  unfolding first
+  one-room x h =
+      let counts = take k (drop 2 w) in
+      let long : length counts ≡ k = length-take-le k (drop 2 w) (simp length-drop (omega (arith, ok .there))) in
+      let e : getD (set w 1 v) (2 + x) 0 ≡ getD counts x 0 = getD-set-other w 1 (2 + x) v 0 (λ (z : 2 + x ≡ 1). omega arith) ∙ sym (getD-take k (drop 2 w) x 0 h ∙ getD-drop 2 w x 0) in
+      omega (arith, e, room-at counts x (omega arith) (ok .counts))
+
+  each-there : (xs : List ℕ) → All (λ x. x < k) xs → All (λ x. 2 + x < length first) xs
+  unfolding first
+  each-there [] h = tt
+  each-there (x ∷ xs) h = (simp length-set (omega (arith, ok .there, h .0)), each-there xs (h .1))
+
+  each-room : (xs : List ℕ) → All (λ x. x < k) xs → All (λ x. getD first (2 + x) 0 < 4294967295) xs
+  each-room [] h = tt
+  each-room (x ∷ xs) h = (one-room x (h .0), each-room xs (h .1))
+
+  pub raisable-first : (xs : List ℕ) → ascending 0 xs ≡ true → All (λ x. x < k) xs → Raisable 2 xs (set w 1 v)
+  unfolding first
+  raisable-first xs a h = record { order = a; there = each-there xs h; room = each-room xs h }
+
+-- the counts that flags of their places raise
+pub raised-flags : (k : ℕ) (fs xs w w₁ : List ℕ) → 2 + k ≤ length w → length fs ≡ k → xs ≡ placesFrom isSet 0 fs → w₁ ≡ raiseEach 2 xs w → w₁ ≡ put 2 (addHits isSet (take k fs) (take k (drop 2 w))) w
+raised-flags k fs xs w w₁ h e q r =
+    r ∙ ap (λ (l : List ℕ). raiseEach 2 l w) q ∙ raise-flags 2 0 fs w (omega arith)
+    ∙ ap₂ (λ (l : List ℕ) (n : ℕ). put 2 (addHits isSet l (take n (drop 2 w))) w) (sym (ap (λ (n : ℕ). take n fs) (sym e) ∙ take-length fs)) e
