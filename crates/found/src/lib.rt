@@ -26,6 +26,8 @@ ghost use Rattle.parts.specs.Point.{RowsOf};
 ghost use Rattle.places.specs.Places.{hitParts};
 ghost use Rattle.found.specs.Found.{OriginsAt, guardAt, newPart, nextPart, newParts};
 
+pub mod all;
+
 // The row at at holds the value.
 fn row_holds(rows: &[u64], at: usize, v: u64) -> bool
     requires { ⌜ at + 7 ≤ length (now rows) ⌝ }
