@@ -1,11 +1,11 @@
 -- The elements with given numbers, one after the other.
 -- Assumes nothing.
-use mathlib.Core.Path.{_≡_, refl, sym, ap, ap₂, _∙_}
-use mathlib.Core.List.{List, [], _∷_, map}
-use Prim.Native.Nat.{ℕ, suc, _+_, _-_, _≤_, _<_}
+use mathlib.Core.Path.{_≡_, sym, ap, ap₂, _∙_}
+use mathlib.Core.List.{List, _∷_}
+use Prim.Native.Nat.{ℕ, _+_, _-_, _≤_, _<_}
 use native.Mathlib.Omega.{arith}
-use lib.ListN.{length, getD, take, drop, set, length-map}
-use Rattle.model.proofs.Lists.{part-cons, part-end, length-part}
+use lib.ListN.{length, getD, take, drop, set}
+use Rattle.model.proofs.Lists.{part-cons, part-end}
 use Rattle.arrays.specs.Put.{put}
 use Rattle.arrays.proofs.PutLaws.{put-nil, put-cons}
 use Rattle.hits.specs.Places.{elementsAt}

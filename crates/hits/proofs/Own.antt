@@ -5,13 +5,13 @@ use mathlib.Core.Bool.{Bool, true, false, not, _&&_, _||_, cond, and-false}
 use mathlib.Core.List.{List, [], _∷_, _++_, map}
 use Prim.Native.Nat.{ℕ, zero, suc, _+_, _*_, _/_, _<_, max}
 use native.Mathlib.Omega.{arith}
-use lib.Dec.{leb, eqb}
+use lib.Dec.{eqb}
 use lib.ListN.{length, getD, take, drop}
 use borrow.Author.Tests.{eqb-true, eq-eqb}
 use Rattle.model.specs.Lists.{upFrom, any, keep, concatOf, oneOf}
 use Rattle.model.specs.Table.{Point, Kind, cover, ignore, illegal, default, Form, single, perValue, fixed, Range, ValueBin, Table, isCover, isDefault, excludes, noValueBin}
 use Rattle.model.specs.Values.{values, inRange, inRanges, distinctValues, listedValues, portion, binCount, inBin}
-use Rattle.model.specs.Counters.{CoverBin, listed, auto, Counter, valueBin, defaultBin, illegalBin, transition, illegalTransition, crossBin, illegalCross, product, pointAt, valueBinAt, pointOf, excludedValue, listedValue, distributed, holds, hasAuto, autoCount, binCounters, valueCounters, autoCounters, coverBins}
+use Rattle.model.specs.Counters.{CoverBin, listed, auto, Counter, valueBin, defaultBin, illegalBin, transition, illegalTransition, crossBin, illegalCross, product, pointAt, valueBinAt, excludedValue, listedValue, distributed, holds, hasAuto, autoCount, binCounters, valueCounters, autoCounters, coverBins}
 use Rattle.model.specs.Sampling.{Reading, skipped, unknown, known, guardTrue, reading, isIn, Stretches, coverGuard, coverHit, hits}
 use Rattle.model.proofs.Readers.{All, all-append}
 use Rattle.model.proofs.Booleans.{false-true, and-left, and-right, or-right, or-false-left, or-false-right}

@@ -1,23 +1,23 @@
 -- What the calls ask for and write, for a point of an accepted table.
 -- Assumes nothing.
-use mathlib.Core.Path.{_≡_, refl, sym, ap, ap₂, _∙_}
+use mathlib.Core.Path.{_≡_, refl, sym, ap, _∙_}
 use mathlib.Core.Bool.{Bool, true, false, _||_, cond}
-use mathlib.Core.List.{List, [], _∷_, _++_, map}
-use Prim.Native.Nat.{ℕ, zero, suc, _+_, _-_, _*_, _^_, _≤_, _<_}
+use mathlib.Core.List.{List, [], _∷_, _++_}
+use Prim.Native.Nat.{ℕ, zero, suc, _+_, _-_, _^_, _≤_, _<_}
 use native.Mathlib.Omega.{arith}
 use lib.Dec.{leb, eqb}
 use lib.ListN.{length, getD, take, drop, replicate, length-append, length-map, length-take, length-drop}
 use lib.Seq.{getD-take, getD-drop}
 use borrow.Author.Tests.{eqb-true, leb-true, leb-false}
-use Rattle.model.specs.Lists.{upFrom, concatOf, asBit}
+use Rattle.model.specs.Lists.{asBit}
 use Rattle.model.specs.Table.{ValueBin, TransitionBin, Kind, cover, ignore, illegal, default, Table}
 use Rattle.model.specs.Counters.{Counter, listedValue, valueCounters, autoCounters, transitionCounter, transitionCounters, pointCounters}
-use Rattle.model.specs.Sampling.{reading, known, Stretches, coverHit, hits}
+use Rattle.model.specs.Sampling.{reading, Stretches, coverHit, hits}
 use Rattle.model.specs.Format.{accepted, tableOf}
 use Rattle.model.specs.Raw.{binsAt}
 use Rattle.model.specs.Register.{pointTotal, inWidths, runStretches}
 use Rattle.model.proofs.Readers.{All}
-use Rattle.model.proofs.Booleans.{or-false-left, or-false-right}
+use Rattle.model.proofs.Booleans.{or-false-right}
 use Rattle.model.proofs.Sections.{accepted-decodes}
 use Rattle.model.proofs.RawExact.{few-points}
 use Rattle.layout.specs.declared.Layout.{Layout}

@@ -1,12 +1,12 @@
 -- The places of a point's value and auto counters that are hit: those of its cover bins that are hit, or else of its plain bins.
 -- Assumes nothing.
 use mathlib.Core.Path.{_≡_, refl, sym, ap, ap₂, _∙_, subst}
-use mathlib.Core.Bool.{Bool, true, false, not, _&&_, _||_, cond}
+use mathlib.Core.Bool.{Bool, true, false, not, _&&_, cond}
 use mathlib.Core.List.{List, [], _∷_, _++_, map, append-nil}
-use Prim.Native.Nat.{ℕ, zero, suc, _+_, _≤_, _<_}
+use Prim.Native.Nat.{ℕ, suc, _+_, _<_}
 use native.Mathlib.Omega.{arith}
 use lib.Dec.{eqb}
-use lib.ListN.{length, getD, take, drop, length-append, length-take}
+use lib.ListN.{length, getD, drop, length-take}
 use lib.Seq.{getD-take, getD-drop, drop-drop}
 use borrow.Author.Tests.{eqb-true}
 use Rattle.model.specs.Lists.{upFrom}
@@ -15,9 +15,9 @@ use Rattle.model.specs.Values.{inRanges, binCount}
 use Rattle.model.specs.Counters.{CoverBin, auto, listed, Counter, valueBin, defaultBin, illegalBin, transition, illegalTransition, crossBin, illegalCross, product, pointAt, valueBinAt, listedValue, hasAuto, autoCount, binCounters, valueCounters, autoCounters, transitionCounters, pointCounters, coverBins}
 use Rattle.model.specs.Sampling.{known, guardTrue, reading, isIn, Stretches, coverHit, hits}
 use Rattle.model.specs.Register.{runStretches}
-use Rattle.model.proofs.Readers.{All, all-map, all-both, all-append}
+use Rattle.model.proofs.Readers.{All, all-map, all-both}
 use Rattle.model.proofs.Booleans.{false-true}
-use Rattle.model.proofs.Lists.{map-all, all-row}
+use Rattle.model.proofs.Lists.{map-all}
 use Rattle.model.proofs.Limits.{covers-append, no-covers}
 use Rattle.arrays.specs.Flat.{covers, pointStart}
 use Rattle.places.specs.Places.{placeIf, placesFrom, isCoverCounter, coverPlaces, hitParts}
