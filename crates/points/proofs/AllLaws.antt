@@ -32,7 +32,7 @@ use Rattle.points.proofs.ReadingLaws.{points-counted}
 
 -- ---- one point
 
-skip-code : (r : Reading) (code : ℕ) → code ≡ readingCode r → (r ≡ known code → code < 8589934592) → eqb code 8589934592 ≡ isSkipped r
+pub skip-code : (r : Reading) (code : ℕ) → code ≡ readingCode r → (r ≡ known code → code < 8589934592) → eqb code 8589934592 ≡ isSkipped r
 skip-code skipped code e h = eq-eqb code 8589934592 e
 skip-code unknown code e h = ne-eqb code 8589934592 (λ z. omega arith)
 skip-code (known v) code e h = let k : code < 8589934592 = h (ap known (sym e)) in ne-eqb code 8589934592 (λ z. omega arith)

@@ -91,7 +91,7 @@ auto-length t p live v = go (hasAuto t p)
 
 -- ---- the reading
 
-code-known : (r : Reading) (code : ℕ) → code ≡ readingCode r → code < 8589934592 → r ≡ known code
+pub code-known : (r : Reading) (code : ℕ) → code ≡ readingCode r → code < 8589934592 → r ≡ known code
 code-known skipped code e h = absurd (omega arith)
 code-known unknown code e h = absurd (omega arith)
 code-known (known v) code e h = ap known (sym e)

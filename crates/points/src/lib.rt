@@ -6,4 +6,4 @@ pub mod kinds;
 pub mod points;
 pub mod readings;
 pub mod spread;
-mod transitions;
+pub mod transitions;

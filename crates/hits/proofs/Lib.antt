@@ -1,0 +1,5 @@
+pub mod PlainLaws
+pub mod FoundLaws
+pub mod Own
+pub mod ValueExact
+pub mod Ready

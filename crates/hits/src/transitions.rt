@@ -1,0 +1,33 @@
+// The places of a point's transition bins that a sample hits.
+use layout::Layout;
+use places::put_set;
+use points::readings::PointReading;
+use points::transitions::put_transitions;
+ghost use mathlib.Core.Path.{_≡_};
+ghost use Prim.Native.Nat.{_<_, _≤_};
+ghost use lib.ListN.{length, take};
+ghost use Rattle.model.specs.Sampling.{reading};
+ghost use Rattle.model.specs.Format.{tableOf};
+ghost use Rattle.model.specs.Register.{pointTotal};
+ghost use Rattle.arrays.specs.Put.{put};
+ghost use Rattle.arrays.specs.Flat.{readingCode};
+ghost use Rattle.points.specs.Hits.{Sampled};
+ghost use Rattle.hits.specs.Places.{transitionStart, transitionPlaces};
+
+// By the places of the layout. lens: the matched lengths of each transition bin; base: where the counters of the point's transition bins begin.
+pub fn put_transition_hits(
+    hits: &mut [u16],
+    t: &[u8],
+    l: Layout,
+    sample: &[u32],
+    lens: &[u32],
+    own: PointReading,
+    base: usize,
+) -> usize
+    requires { ⌜ (Sampled (now t) l (now sample)) × (own .point < pointTotal (tableOf (now t))) × (own .code ≡ readingCode (reading (tableOf (now t)) (now sample) (own .point))) × (64 ≤ length (now lens)) × (64 ≤ length (now hits)) × (base ≡ transitionStart (tableOf (now t)) (own .point)) ⌝ }
+    ensures { λ r. ⌜ (r ≡ length (transitionPlaces (tableOf (now (t .entry))) (now (sample .entry)) (take (length (tableOf (now (t .entry)) .transitionBins)) (now (lens .entry))) (own .point))) × (now (hits .exit) ≡ put 0 (transitionPlaces (tableOf (now (t .entry))) (now (sample .entry)) (take (length (tableOf (now (t .entry)) .transitionBins)) (now (lens .entry))) (own .point)) (now (hits .entry))) ⌝ }
+{
+    let mut flags = [0u8; 64];
+    let n = put_transitions(&mut flags, 0, t, l, sample, lens, own);
+    put_set(hits, &flags, n, base)
+}
