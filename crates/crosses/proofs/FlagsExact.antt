@@ -69,7 +69,7 @@ label-length a b a′ b′ ignore = refl
 label-length a b a′ b′ illegal = refl
 label-length a b a′ b′ default = refl
 
-flags-length : (w : List ℕ) (total live : Bool) (own every : ℕ) (hs : List CrossBinHead) → length (binFlags w total live own every hs) ≡ length (binLabels 0 0 hs)
+pub flags-length : (w : List ℕ) (total live : Bool) (own every : ℕ) (hs : List CrossBinHead) → length (binFlags w total live own every hs) ≡ length (binLabels 0 0 hs)
 unfolding binFlags binLabels
 flags-length w total live own every [] = refl
 flags-length w total live own every (h ∷ hs) =

@@ -65,7 +65,7 @@ fn flag_of(on: bool, word: u16) -> u8
 }
 
 // The flags of n bins from b on.
-fn put_bins(
+pub fn put_bins(
     flags: &mut [u8],
     t: &[u8],
     sample: &[u32],

@@ -29,7 +29,7 @@ pub fn mask_of(t: &[u8], b: usize, n: usize) -> u16
     mask
 }
 
-fn own_mark(hit: u8, m: u16, mask: u16) -> u16
+pub fn own_mark(hit: u8, m: u16, mask: u16) -> u16
     ensures { λ r. ⌜ r ≡ ownMark mask hit m ⌝ }
 {
     if (hit == 1) & (m & mask == 0) { m } else { 0 }

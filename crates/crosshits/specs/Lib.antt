@@ -1,0 +1,4 @@
+-- The definitions that the contracts cite.
+pub mod Numbers
+pub mod Listed
+pub mod Cross
