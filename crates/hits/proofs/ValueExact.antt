@@ -20,10 +20,10 @@ use Rattle.model.proofs.Booleans.{false-true}
 use Rattle.model.proofs.Lists.{map-all}
 use Rattle.model.proofs.Limits.{covers-append, no-covers}
 use Rattle.arrays.specs.Flat.{covers, pointStart}
-use Rattle.places.specs.Places.{placeIf, placesFrom, isCoverCounter, coverPlaces, hitParts}
+use Rattle.places.specs.Places.{placeIf, placesFrom, isCoverCounter, coverPlaces, hitParts, isPlain, plainPlaces}
 use Rattle.places.proofs.PlaceLaws.{places-append, places-agree, places-none, places-below}
 use Rattle.points.proofs.Counted.{TransitionOf, all-transitions}
-use Rattle.hits.specs.Places.{valuePlaces, isPlain, plainPlaces, PlacesOf, PlainsOf, elementsAt}
+use Rattle.hits.specs.Places.{valuePlaces, PlacesOf, PlainsOf, elementsAt}
 use Rattle.hits.specs.Plains.{plainKind, isPlainBin, plainCount, plainHolds, plainHit, plainHits}
 use Rattle.hits.proofs.Own.{OwnCover, OwnCounter, own-counters, covers-all, Covered, covered, illegal-off, default-off}
 

@@ -2,16 +2,14 @@
 -- Assumes nothing.
 use Prim.Native.Nat.{ℕ, _+_, _<_}
 use mathlib.Core.Path.{_≡_}
-use mathlib.Core.Bool.{Bool, _||_}
 use mathlib.Core.List.{List, [], _++_, map}
-use lib.Dec.{eqb}
 use lib.ListN.{length, getD, take, drop}
 use Rattle.model.specs.Table.{Table}
-use Rattle.model.specs.Counters.{Counter, valueCounters, autoCounters, transitionCounters, pointCounters}
+use Rattle.model.specs.Counters.{valueCounters, autoCounters, transitionCounters}
 use Rattle.model.specs.Sampling.{hits}
 use Rattle.model.specs.Register.{runStretches}
-use Rattle.arrays.specs.Flat.{kindOf, covers, pointStart}
-use Rattle.places.specs.Places.{placesFrom, coverPlaces, hitParts}
+use Rattle.arrays.specs.Flat.{covers, pointStart}
+use Rattle.places.specs.Places.{placesFrom, coverPlaces, plainPlaces, hitParts}
 
 -- ---- what is hit
 
@@ -28,13 +26,6 @@ unfoldable pub transitionPlaces : Table → List ℕ → List ℕ → ℕ → Li
 transitionPlaces t w lens p = placesFrom (hits t w (runStretches lens)) (transitionStart t p) (transitionCounters p 0 (t .transitionBins))
 
 -- ---- what it is taken from
-
--- a default bin or an illegal bin
-abbrev pub isPlain : Counter → Bool
-isPlain c = eqb (kindOf c) 1 || eqb (kindOf c) 2
-
-unfoldable pub plainPlaces : Table → ℕ → List ℕ
-plainPlaces t p = placesFrom isPlain (pointStart t p) (pointCounters t p)
 
 -- how many cover bins of the point are hit, and then which
 pub record FoundOf (t : Table) (w : List ℕ) (p : ℕ) (a : List ℕ) : Type 0 where

@@ -13,7 +13,6 @@ ghost use Prim.Native.Nat.{_<_, _≤_, _+_};
 ghost use lib.ListN.{length, getD};
 ghost use Rattle.model.specs.Raw.{binAt, binsAt};
 ghost use Rattle.arrays.specs.Put.{put};
-ghost use Rattle.places.specs.Places.{placeIf};
 ghost use Rattle.values.specs.Flags.{listedIn};
 ghost use Rattle.hits.specs.Plains.{isPlainBin, plainHit, plainHits};
 
@@ -70,17 +69,6 @@ fn plain_hit(t: &[u8], a: usize, r: usize, sample: &[u32], own: bool, h: ListedV
     y & z
 }
 
-// The place, if b says so.
-fn put_place(hits: &mut [u16], cur: usize, b: bool, place: usize) -> usize
-    requires { ⌜ (cur + length (placeIf b place) ≤ length (now hits)) × (place ≤ 65535) ⌝ }
-    ensures { λ r. ⌜ (r ≡ cur + length (placeIf b place)) × (now (hits .exit) ≡ put cur (placeIf b place) (now (hits .entry))) ⌝ }
-{
-    if !b {
-        return cur;
-    }
-    put_if(hits, cur, b, place)
-}
-
 // Those of the point's plain bins, whose places are in plains.
 fn put_plains(
     hits: &mut [u16],
@@ -104,7 +92,7 @@ fn put_plains(
         let own = is_plain(t, here, at, h.point);
         let y = plain_hit(t, here, at, sample, own, h);
         let place = place_at(plains, j);
-        c = put_place(hits, c, y, place);
+        c = put_if(hits, c, y, place);
         j += one_if(own);
         at += 17 * (read2(t, here + 6) as usize);
         i += 1;

@@ -101,7 +101,15 @@ pub place-room : (at n : ℕ) (b : Bool) (l : List ℕ) → b ≡ true → at + 
 place-room at n true l e h = omega arith
 place-room at n false l e h = absurd (false-true e)
 
+pub one-place : (b : Bool) (n : ℕ) → length (placeIf b n) ≤ 1
+one-place true n = omega arith
+one-place false n = omega arith
+
 module _ (f : ℕ → Bool) (base n : ℕ) (flags : List ℕ) where
+  -- no more than there are flags
+  pub set-few : length (placesFrom f base (take n flags)) ≤ n
+  set-few = omega (arith, places-few f base (take n flags), length-take n flags)
+
   pub set-turn : (i : ℕ) → i < n → n ≤ length flags → placesFrom f (base + i) (drop i (take n flags)) ≡ placeIf (f (getD flags i 0)) (base + i) ++ placesFrom f (base + (i + 1)) (drop (i + 1) (take n flags))
   set-turn i h k =
       places-turn f base (take n flags) 0 i (omega (arith, length-take n flags))

@@ -82,7 +82,7 @@ put-set-requires c κs =
     let same = live-flags s w ms xs (a .x) (k .result) (mask .result) (own .result) (every .result) (k .ensures) (mask .ensures) (own .ensures) (every .ensures) in
     let m = c .before .before .before .put-bins in
     let part = mid-len (a .x .at) (length (a .hits .now)) (a .hits .now) (omega arith) in
-    (omega (arith, m .ensures .0, ap length same, flags-few s w ms xs (a .x) (pre .2), m .kept .0, length-replicate {A = ℕ} 16 0), omega (arith, m .ensures .0, ap length same, part, pre .7), omega (arith, m .ensures .0, ap length same, pre .6))
+    (omega (arith, m .ensures .0, ap length same, flags-few s w ms xs (a .x) (pre .2), m .kept .0, length-replicate {A = ℕ} 16 0), omega (arith, set-few isSet (a .x .first) (m .result) (m .last .0), m .ensures .0, ap length same, part, pre .7), omega (arith, m .ensures .0, ap length same, pre .6))
 
 add-t21 : tie.Need-add-t21
 add-t21 c =

@@ -49,7 +49,8 @@ put-if-requires c κs =
     let p = c .before .before .before .before .before .before .before .before .pre in
     let l = c .before .before .before .before .loop in
     let b = below (a .n) 1024 (a .list .now) (p .4) (l .i) (omega arith) in
-    (omega (arith, l .inv .1, l .inv .2 .kept, p .2), omega (arith, p .3, b, c .before .before .element .ensures))
+    let m = c .before .element2 .result in
+    (omega (arith, l .inv .1, l .inv .2 .kept, p .2, one-place (eqb m 0) (a .x .first + c .before .before .element .result)), omega (arith, p .3, b, c .before .before .element .ensures))
 
 add-i : tie.Need-add-i Inv-loop μ-loop
 add-i c = omega arith

@@ -38,8 +38,8 @@ plain-hit-requires c κs = (omega arith, omega arith, c .is-plain .ensures)
 place-at-requires : tie.Need-place-at-requires Inv-loop μ-loop
 place-at-requires c κs = search needs
 
-put-place-requires : tie.Need-put-place-requires Inv-loop μ-loop
-put-place-requires c κs =
+put-if-requires : tie.Need-put-if-requires Inv-loop μ-loop
+put-if-requires c κs =
     let a = c .before .before .before .before .before .before .before .before .before .before .args in
     let l = c .before .before .before .before .before .loop in
     let b = c .before .before .before .is-plain in
@@ -81,7 +81,7 @@ loop-again c =
     let b = c .before .before .before .before .before .before .before .before .is-plain in
     let y = c .before .before .before .before .before .before .before .plain-hit in
     let q = c .before .before .before .before .before .before .place-at in
-    let w = c .before .before .before .before .put-place in
+    let w = c .before .before .before .before .put-if in
     let m = c .before .one-if in
     let k = c .read2 in
     let turn = plains-turn (a .sample .now) (a .h .point) (a .h .value) (a .h .listed) (a .plains .now) (a .t .now) (a .l .bins) (l .at) (a .l .«bin_count») (l .i) (l .j) (k .result) (m .result) (y .result) (b .result) (q .result) (omega arith) (b .ensures) (y .ensures) (q .ensures .0) (m .ensures .0) (k .ensures) in
@@ -109,7 +109,7 @@ put-plains-spec =
     is-plain-requires
     plain-hit-requires
     place-at-requires
-    put-place-requires
+    put-if-requires
     one-if-requires
     add-j
     add-read2

@@ -38,7 +38,7 @@ put-set-requires c κs =
     let words : (j : ℕ) → getD (a .lens .now) j 0 < 2 ^ 32 = λ j. c .before .before .before .before .before .shared-slice-known3 .given j .fits in
     let q = c .before .before .before .put-transitions in
     let few = flags-few (a .t .now) (a .sample .now) (a .lens .now) (g .good) (g .widths) words (a .own .point) (p .1) (a .l) (g .placed) (a .own .code) (p .2) in
-    (omega (arith, few, q .ensures .0, q .kept .0), omega (arith, few, q .ensures .0, p .4), omega (arith, places-small (a .t .now) (a .sample .now) (a .lens .now) (g .good) (g .widths) words (a .own .point) (p .1) (a .l) (g .placed) (a .own .code) (p .2), q .ensures .0, p .5))
+    (omega (arith, few, q .ensures .0, q .kept .0), omega (arith, set-few isSet (a .base) (q .result) (q .last .0), few, q .ensures .0, p .4), omega (arith, places-small (a .t .now) (a .sample .now) (a .lens .now) (g .good) (g .widths) words (a .own .point) (p .1) (a .l) (g .placed) (a .own .code) (p .2), q .ensures .0, p .5))
 
 same-length : tie.Need-same-length
 same-length c = search needs
