@@ -7,12 +7,13 @@ use Prim.Native.Nat.{ℕ, zero, suc, _+_, _-_, _*_, _≤_, _<_}
 use native.Mathlib.Omega.{arith}
 use lib.Dec.{eqb, leb}
 use lib.ListN.{length, getD, drop, replicate, length-map, length-replicate, getD-replicate}
+use lib.Seq.{getD-drop}
 use borrow.Author.Tests.{eqb-true, eq-eqb, ne-eqb, leb-true, leb-false}
 use Rattle.model.specs.Lists.{asBit}
 use Rattle.model.specs.Table.{Table}
 use Rattle.model.specs.Values.{fieldValue}
 use Rattle.model.specs.Counters.{CoverBin, listed, auto, noCoverBin, isFrom, meets}
-use Rattle.model.specs.Format.{byte, u16, u64}
+use Rattle.model.specs.Format.{byte, u16, u64, tableOf}
 use Rattle.model.specs.Register.{pointTotal}
 use Rattle.model.proofs.Booleans.{bool-eq}
 use Rattle.model.proofs.Lists.{length-row, getD-row, getD-map}
@@ -20,8 +21,11 @@ use Rattle.arrays.specs.Put.{put}
 use Rattle.arrays.specs.Flat.{covers, origin, Origins}
 use Rattle.arrays.proofs.PutLaws.{put-in, put-before}
 use Rattle.pieces.specs.Pieces.{metBit, metBits}
+use Rattle.pieces.proofs.PlanLaws.{few-covers}
 use Rattle.products.specs.Told.{leafBit}
-use Rattle.products.specs.Tokens.{tokenPoint, tokenBit, RowTold, RowsTold, Kept, namedBit, namedFrom}
+use Rattle.products.specs.Tokens.{tokenPoint, tokenBit, RowTold, RowsTold, Kept, namedBit, namedFrom, Ready, Legal}
+use Rattle.products.specs.Shapes.{sizesOf}
+use Rattle.products.specs.declared.shapes.Shape.{Shape}
 
 -- ---- a row of names
 
@@ -47,15 +51,18 @@ module _ (t : Table) (s : List ℕ) (c at row : ℕ) (l l′ : List ℕ) (room :
     (λ i h. ap (λ (x : List ℕ). getD x i 0) e ∙ put-before row xs l i 0 (omega arith) h),
   )
 
-  module _ (few : length (covers t (tokenPoint s c at)) ≤ 256) where
-    pub row-named : (origins : List ℕ) (b p : ℕ) → p ≡ tokenPoint s c at → b ≡ u16 s (at + 2) → byte s at ≡ 1 → u16 s (at + 2) < 65535
-        → tokenPoint s c at < pointTotal t → Origins t origins → l′ ≡ put row (namedFrom origins b (256 * p) 256) l → RowTold t s c at row l′ × Kept row l l′
+  -- n bytes for the point's n cover bins
+  module _ (n : ℕ) (en : n ≡ length (covers t (tokenPoint s c at))) where
+    pub row-named : (lists : List ℕ) (b p : ℕ) → p ≡ tokenPoint s c at → b ≡ u16 s (at + 2) → byte s at ≡ 1 → u16 s (at + 2) < 65535
+        → tokenPoint s c at < pointTotal t → Origins t (drop 64 lists) → l′ ≡ put row (namedFrom lists b (64 + 256 * p) n) l → RowTold t s c at row l′ × Kept row l l′
     unfolding namedFrom Origins
-    row-named origins b p ep eb op small inside from e =
-        told (namedFrom origins b (256 * p) 256) e λ d h. (
-          omega (arith, length-row (namedBit origins b) (256 * p) 256),
-          getD-row (namedBit origins b) (256 * p) 256 d 0 (omega arith)
-              ∙ ap₂ (λ (x y : ℕ). asBit (eqb (getD origins (256 * x + d) 0) y)) ep eb
+    row-named lists b p ep eb op small inside from e =
+        told (namedFrom lists b (64 + 256 * p) n) e λ d h. (
+          omega (arith, length-row (namedBit lists b) (64 + 256 * p) n),
+          getD-row (namedBit lists b) (64 + 256 * p) n d 0 (omega arith)
+              ∙ ap₂ (λ (x y : ℕ). asBit (eqb (getD lists (64 + 256 * x + d) 0) y)) ep eb
+              ∙ ap (λ (x : ℕ). asBit (eqb (getD lists x 0) (u16 s (at + 2)))) (let z : 64 + 256 * tokenPoint s c at + d ≡ 64 + (256 * tokenPoint s c at + d) = omega arith in z)
+              ∙ ap (λ (x : ℕ). asBit (eqb x (u16 s (at + 2)))) (sym (getD-drop 64 lists (256 * tokenPoint s c at + d) 0))
               ∙ ap (λ (x : ℕ). asBit (eqb x (u16 s (at + 2)))) (from (tokenPoint s c at) d inside h)
               ∙ ap asBit (origin-from (u16 s (at + 2)) (getD mine d noCoverBin) small)
               ∙ sym (named (getD mine d noCoverBin)),
@@ -64,11 +71,11 @@ module _ (t : Table) (s : List ℕ) (c at row : ℕ) (l l′ : List ℕ) (room :
         named : (x : CoverBin) → tokenBit t s at x ≡ asBit (isFrom (u16 s (at + 2)) x)
         named x = rw op
 
-    pub row-same : (v : ℕ) → v ≡ asBit (eqb (byte s at) 0) → (byte s at ≡ 1 → ⊥) → (byte s at ≡ 2 → ⊥) → l′ ≡ put row (replicate 256 v) l → RowTold t s c at row l′ × Kept row l l′
+    pub row-same : (v : ℕ) → v ≡ asBit (eqb (byte s at) 0) → (byte s at ≡ 1 → ⊥) → (byte s at ≡ 2 → ⊥) → l′ ≡ put row (replicate n v) l → RowTold t s c at row l′ × Kept row l l′
     row-same v ev n₁ n₂ e =
-        told (replicate 256 v) e λ d h. (
-          omega (arith, length-replicate {A = ℕ} 256 v),
-          getD-replicate 256 d v 0 (omega arith) ∙ ev ∙ sym (other (byte s at) n₁ n₂ (getD mine d noCoverBin)),
+        told (replicate n v) e λ d h. (
+          omega (arith, length-replicate {A = ℕ} n v),
+          getD-replicate n d v 0 (omega arith) ∙ ev ∙ sym (other (byte s at) n₁ n₂ (getD mine d noCoverBin)),
         )
       where
         other : (op : ℕ) → (op ≡ 1 → ⊥) → (op ≡ 2 → ⊥) → (x : CoverBin) → leafBit (meets t) (x ∷ []) op 0 (u16 s (at + 2)) (fieldValue (u64 s (at + 4))) (fieldValue (u64 s (at + 12))) ≡ asBit (eqb op 0)
@@ -90,6 +97,18 @@ module _ (t : Table) (s : List ℕ) (c at row : ℕ) (l l′ : List ℕ) (room :
     where
       meeting : (x : CoverBin) → tokenBit t s at x ≡ asBit (meets t x (fieldValue (u64 s (at + 4))) (fieldValue (u64 s (at + 12))))
       meeting x = rw op
+
+-- ---- the point of a token
+
+module _ (s : List ℕ) (c at : ℕ) (x : Shape) (plan lists : List ℕ) (ready : Ready s c x plan lists) (legal : Legal s c at) where
+  pub point-inside : tokenPoint s c at < pointTotal (tableOf s)
+  point-inside = ready .points (byte s (at + 1)) (legal .position)
+
+  pub parts-few : length (covers (tableOf s) (tokenPoint s c at)) ≤ 256
+  parts-few = few-covers s (ready .whole) (tokenPoint s c at) point-inside
+
+  pub parts-are : (i n : ℕ) → i ≡ byte s (at + 1) → n ≡ getD (sizesOf x) i 1 → n ≡ length (covers (tableOf s) (tokenPoint s c at))
+  parts-are i n ei en = en ∙ ap (λ (y : ℕ). getD (sizesOf x) y 1) ei ∙ ready .sizes (byte s (at + 1)) (legal .position)
 
 -- ---- the rows of some tokens
 

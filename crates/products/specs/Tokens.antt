@@ -6,7 +6,7 @@ use mathlib.Core.Path.{_≡_}
 use mathlib.Core.Bool.{true}
 use mathlib.Core.List.{List, [], _∷_, map}
 use lib.Dec.{eqb}
-use lib.ListN.{length, getD}
+use lib.ListN.{length, getD, drop}
 use Rattle.model.specs.Lists.{upFrom, asBit}
 use Rattle.model.specs.Table.{Table}
 use Rattle.model.specs.Values.{fieldValue, inType}
@@ -41,10 +41,10 @@ Kept n xs ys = (i : ℕ) → i < n → getD ys i 0 ≡ getD xs i 0
 
 -- 1 where the origin is b, for n cover bins from `from` on
 abbrev pub namedBit : List ℕ → ℕ → ℕ → ℕ
-namedBit origins b i = asBit (eqb (getD origins i 0) b)
+namedBit lists b i = asBit (eqb (getD lists i 0) b)
 
 unfoldable pub namedFrom : List ℕ → ℕ → ℕ → ℕ → List ℕ
-namedFrom origins b from n = map (namedBit origins b) (upFrom from n)
+namedFrom lists b from n = map (namedBit lists b) (upFrom from n)
 
 -- ---- what an accepted table grants
 
@@ -58,11 +58,11 @@ pub record Legal (s : List ℕ) (c at : ℕ) : Type 0 where
 unfoldable pub TokensLegal : List ℕ → ℕ → ℕ → ℕ → Type 0
 TokensLegal s c k n = (j : ℕ) → j < n → Legal s c (k + 20 * j)
 
--- the table is accepted, the cross's points are points of it, the shape says how many cover bins each has, and the origins and the plan belong to the table
-pub record Ready (s : List ℕ) (c : ℕ) (x : Shape) (origins plan bounds : List ℕ) : Type 0 where
+-- the table is accepted, the cross's points are points of it, the shape says how many cover bins each has, and the plan and the origins, from element 64 of the lists on, belong to the table
+pub record Ready (s : List ℕ) (c : ℕ) (x : Shape) (plan lists : List ℕ) : Type 0 where
   pub whole : accepted s ≡ true
   pub points : (i : ℕ) → i < byte s c → byte s (c + 1 + i) < pointTotal (tableOf s)
   pub few : x .count ≤ 4
   pub sizes : (i : ℕ) → i < byte s c → getD (sizesOf x) i 1 ≡ length (covers (tableOf s) (byte s (c + 1 + i)))
-  pub from : Origins (tableOf s) origins
-  pub planned : ValuesPlan (tableOf s) plan bounds
+  pub from : Origins (tableOf s) (drop 64 lists)
+  pub planned : ValuesPlan (tableOf s) plan lists

@@ -17,18 +17,18 @@ ghost use Rattle.products.specs.Bytes.{Says, openOf};
 
 // One position q: the gates of its point, for each product. The cross's points stand from `at` on.
 fn and_gate(stack: &mut [u8], t: &[u8], gate: &[u8], at: usize, q: usize, s: Shape)
-    requires { ⌜ (at < 1000000000) × (q < 4) × Whole s × (2048 ≤ length (now stack)) ⌝ }
+    requires { ⌜ (at < 1000000000) × (q < 4) × Whole s × (2 * s .total ≤ length (now stack)) ⌝ }
     ensures { λ _. ⌜ Says (s .total) (openOf (now (stack .entry)) (now (gate .entry)) (256 * byteAt (now (t .entry)) (at + q)) (sizesOf s) q) (now (stack .exit)) ⌝ }
 {
     let n = s.total;
     let p = byte(t, at + q) as usize;
-    spread_part(&mut stack[1024..], gate, 256 * p, q, s);
+    spread_part(&mut stack[n..], gate, 256 * p, q, s);
     and_into(stack, n);
 }
 
 // All products, from the stack's start on.
 pub fn put_hits(stack: &mut [u8], t: &[u8], gate: &[u8], p: Place, s: Shape)
-    requires { ⌜ Stands (now t) p × Fits (tableOf (now t)) (p .number) s × (2048 ≤ length (now stack)) ⌝ }
+    requires { ⌜ Stands (now t) p × Fits (tableOf (now t)) (p .number) s × (2 * s .total ≤ length (now stack)) ⌝ }
     ensures { λ _. ⌜ ((f : CoverBin → Bool) → Tells f (tableOf (now (t .entry))) (now (gate .entry)) → take (s .total) (now (stack .exit)) ≡ productHits (tableOf (now (t .entry))) (p .number) f) ⌝ }
 {
     let n = s.total;

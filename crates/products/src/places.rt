@@ -19,6 +19,12 @@ pub struct Place {
     pub tokens: usize,
 }
 
+// Where a cross stands, and its shape.
+pub struct Crossed {
+    pub place: Place,
+    pub shape: Shape,
+}
+
 // `counts` says how many parts each point has.
 pub fn shape_of(t: &[u8], counts: &[u16], p: Place) -> Shape
     requires { ⌜ Stands (now t) p × (take (pointTotal (tableOf (now t))) (now counts) ≡ coverCounts (tableOf (now t))) ⌝ }

@@ -1,6 +1,7 @@
 // Flat arrays over all counters of an accepted table, in the register's order: what a sample raises, what each counter is, what is in the total, whose item it is.
 mod planned;
 
+use crate::planned::put_marks;
 use crate::planned::put_planned;
 use crosses::all::put_crosses;
 use crosses::bins::Ask;
@@ -68,8 +69,7 @@ fn crossed_in(
     ensures { λ _. ⌜ (Tells (coverHit (tableOf (now (t .entry))) (now (sample .entry))) (tableOf (now (t .entry))) (now (gate .entry)) → (m : Stretches) → now (flags .exit) ≡ put at (hitFlags (tableOf (now (t .entry))) (now (sample .entry)) m (allCrossCounters (tableOf (now (t .entry))))) (now (flags .entry))) ⌝ }
 {
     let counts = x.counts;
-    let mut has = [0u8; 4096];
-    put_planned(&mut has, marks, t, x);
+    put_marks(marks, t, x);
     let ask = Ask {
         at: at,
         total: false,

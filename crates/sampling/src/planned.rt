@@ -8,24 +8,22 @@ use pieces::plan::put_has;
 ghost use mathlib.Core.Path.{_≡_};
 ghost use mathlib.Core.Bool.{true};
 ghost use Prim.Native.Nat.{_*_, _≤_};
-ghost use lib.ListN.{length};
+ghost use lib.ListN.{length, drop};
 ghost use Rattle.model.specs.Format.{accepted, tableOf};
 ghost use Rattle.model.specs.Counters.{hasValue};
 ghost use Rattle.model.specs.Register.{pointTotal};
-ghost use Rattle.arrays.specs.Flat.{Tells};
+ghost use Rattle.arrays.specs.Flat.{Tells, Origins};
 ghost use Rattle.pieces.specs.Plan.{planNeed, ValuesPlan};
 ghost use Rattle.crosses.specs.Marked.{markTotal, Marked};
 ghost use Rattle.sampling.specs.Index.{Indexed};
 
-// The marks of the products of all crosses, by the plan of the table's values.
-fn mark_planned(marks: &mut [u16], t: &[u8], plan: &[u64], bounds: &[u16], x: Index)
-    requires { ⌜ (accepted (now t) ≡ true) × Indexed (tableOf (now t)) x × ValuesPlan (tableOf (now t)) (now plan) (now bounds) × (markTotal (tableOf (now t)) ≤ length (now marks)) ⌝ }
-    ensures { λ _. ⌜ Marked (tableOf (now (t .entry))) (now (marks .exit)) ⌝ }
+// The plan of the table's values, and in `lists` its bounds and, from element 64 on, the origins of the cover bins.
+fn put_lists(plan: &mut [u64], lists: &mut [u16], t: &[u8])
+    requires { ⌜ (accepted (now t) ≡ true) × (planNeed (tableOf (now t)) ≤ length (now plan)) × (4160 ≤ length (now lists)) ⌝ }
+    ensures { λ _. ⌜ ValuesPlan (tableOf (now (t .entry))) (now (plan .exit)) (now (lists .exit)) × Origins (tableOf (now (t .entry))) (drop 64 (now (lists .exit))) ⌝ }
 {
-    let counts = x.counts;
-    let mut origins = [0u16; 4096];
-    put_origins(&mut origins, t);
-    mark_all(marks, t, &counts, &origins, plan, bounds);
+    put_plan(plan, &mut lists[..64], t);
+    put_origins(&mut lists[64..], t);
 }
 
 // In an array that has room for the plan.
@@ -35,10 +33,21 @@ fn plan_in(has: &mut [u8], marks: &mut [u16], plan: &mut [u64], t: &[u8], x: Ind
     ensures { λ _. ⌜ Tells (hasValue (tableOf (now (t .entry)))) (tableOf (now (t .entry))) (now (has .exit)) × Marked (tableOf (now (t .entry))) (now (marks .exit)) ⌝ }
 {
     let counts = x.counts;
-    let mut bounds = [0u16; 49];
-    put_plan(plan, &mut bounds, t);
-    put_has(has, t, plan, &bounds, &counts);
-    mark_planned(marks, t, plan, &bounds, x);
+    let mut lists = [0u16; 4160];
+    put_lists(plan, &mut lists, t);
+    put_has(has, t, plan, &lists, &counts);
+    mark_all(marks, t, &counts, plan, &lists);
+}
+
+// The marks alone.
+fn marks_in(marks: &mut [u16], plan: &mut [u64], t: &[u8], x: Index)
+    requires { ⌜ (accepted (now t) ≡ true) × Indexed (tableOf (now t)) x × (planNeed (tableOf (now t)) ≤ length (now plan)) × (markTotal (tableOf (now t)) ≤ length (now marks)) ⌝ }
+    ensures { λ _. ⌜ Marked (tableOf (now (t .entry))) (now (marks .exit)) ⌝ }
+{
+    let counts = x.counts;
+    let mut lists = [0u16; 4160];
+    put_lists(plan, &mut lists, t);
+    mark_all(marks, t, &counts, plan, &lists);
 }
 
 // ---- size classes
@@ -70,6 +79,30 @@ fn largest_plan(has: &mut [u8], marks: &mut [u16], t: &[u8], x: Index)
     plan_in(has, marks, &mut plan, t, x);
 }
 
+fn small_marks(marks: &mut [u16], t: &[u8], x: Index)
+    requires { ⌜ (accepted (now t) ≡ true) × Indexed (tableOf (now t)) x × (markTotal (tableOf (now t)) ≤ length (now marks)) × (planNeed (tableOf (now t)) ≤ 1024) ⌝ }
+    ensures { λ _. ⌜ Marked (tableOf (now (t .entry))) (now (marks .exit)) ⌝ }
+{
+    let mut plan = [0u64; 1024];
+    marks_in(marks, &mut plan, t, x);
+}
+
+fn medium_marks(marks: &mut [u16], t: &[u8], x: Index)
+    requires { ⌜ (accepted (now t) ≡ true) × Indexed (tableOf (now t)) x × (markTotal (tableOf (now t)) ≤ length (now marks)) × (planNeed (tableOf (now t)) ≤ 4096) ⌝ }
+    ensures { λ _. ⌜ Marked (tableOf (now (t .entry))) (now (marks .exit)) ⌝ }
+{
+    let mut plan = [0u64; 4096];
+    marks_in(marks, &mut plan, t, x);
+}
+
+fn largest_marks(marks: &mut [u16], t: &[u8], x: Index)
+    requires { ⌜ (accepted (now t) ≡ true) × Indexed (tableOf (now t)) x × (markTotal (tableOf (now t)) ≤ length (now marks)) ⌝ }
+    ensures { λ _. ⌜ Marked (tableOf (now (t .entry))) (now (marks .exit)) ⌝ }
+{
+    let mut plan = [0u64; 23712];
+    marks_in(marks, &mut plan, t, x);
+}
+
 // At least as many words as the plan of the table's values needs: a point's counters are at least as many as its cover bins.
 fn plan_words(t: &[u8], x: Index) -> usize
     requires { ⌜ (accepted (now t) ≡ true) × Indexed (tableOf (now t)) x ⌝ }
@@ -98,4 +131,21 @@ pub fn put_planned(has: &mut [u8], marks: &mut [u16], t: &[u8], x: Index)
         return;
     }
     largest_plan(has, marks, t, x);
+}
+
+// The marks of the products of all crosses alone.
+pub fn put_marks(marks: &mut [u16], t: &[u8], x: Index)
+    requires { ⌜ (accepted (now t) ≡ true) × Indexed (tableOf (now t)) x × (markTotal (tableOf (now t)) ≤ length (now marks)) ⌝ }
+    ensures { λ _. ⌜ Marked (tableOf (now (t .entry))) (now (marks .exit)) ⌝ }
+{
+    let need = plan_words(t, x);
+    if need <= 1024 {
+        small_marks(marks, t, x);
+        return;
+    }
+    if need <= 4096 {
+        medium_marks(marks, t, x);
+        return;
+    }
+    largest_marks(marks, t, x);
 }

@@ -1,18 +1,10 @@
 use borrow.Author.Needs.{needs}
 use mathlib.Core.Path.{refl}
-use native.Mathlib.Omega.{arith}
-use Rattle.sampling.proofs.Joins.{gate-room}
 use Rattle.sampling.proofs.crossed_in.Statement.{statement}
 use Rattle.sampling.proofs.crossed_in.Tie as tie
 
-slice-aggregate-put-planned : tie.Need-slice-aggregate-put-planned
-slice-aggregate-put-planned c = search needs
-
-put-planned-requires : tie.Need-put-planned-requires
-put-planned-requires c κs =
-    let a = c .before .before .before .before .before .before .before .before .args in
-    let p = c .before .before .before .before .before .before .before .before .pre in
-    ((p .0, p .1), (omega (arith, gate-room (a .t .now) (p .0)), p .3))
+put-marks-requires : tie.Need-put-marks-requires
+put-marks-requires c κs = search needs
 
 slice-aggregate-put-crosses : tie.Need-slice-aggregate-put-crosses
 slice-aggregate-put-crosses c = search needs
@@ -34,8 +26,7 @@ pub crossed-in-spec : {M : Type 1} → statement M
 crossed-in-spec =
     tie.close
     (tie.spec
-    slice-aggregate-put-planned
-    put-planned-requires
+    put-marks-requires
     slice-aggregate-put-crosses
     put-crosses-requires
     same-length

@@ -85,7 +85,7 @@ put-hits-requires c κs =
     let h = c .before .before .loop-test .taken in
     let stands = nth-stands s (pre .0 .0) (l .c) (l .p) (omega (arith, h, i .1)) (i .2) in
     let fits = c .before .shape-of .ensures in
-    (stands, fits, omega (arith, i .4))
+    (stands, fits, omega (arith, i .4, fits .whole .small))
 
 slice-aggregate-put-cross : tie.Need-slice-aggregate-put-cross Inv-loop μ-loop
 slice-aggregate-put-cross c = search needs

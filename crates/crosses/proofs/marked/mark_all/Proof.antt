@@ -15,11 +15,11 @@ use Rattle.crosses.proofs.marked.mark_all.Statement.{statement}
 use Rattle.crosses.proofs.marked.mark_all.Tie as tie
 
 abbrev Inv-loop : tie.InvT-loop
-Inv-loop marks₀ t counts origins plan bounds n p₀ at₀ c₀ marks p at c =
+Inv-loop marks₀ t counts plan lists n p₀ at₀ c₀ marks p at c =
     (c ≤ n) × (n ≡ length (tableOf t .crosses)) × Nth t c p × (length marks ≡ length marks₀) × (at ≡ markStart (tableOf t) c) × MarkedTo (tableOf t) c marks
 
 abbrev μ-loop : tie.MeasureT-loop
-μ-loop marks₀ t counts origins plan bounds n p₀ at₀ c₀ marks p at c = n - c
+μ-loop marks₀ t counts plan lists n p₀ at₀ c₀ marks p at c = n - c
 
 layout-of-requires : tie.Need-layout-of-requires Inv-loop μ-loop
 layout-of-requires c κs = tt
@@ -29,15 +29,15 @@ first-place-requires c κs = tt
 
 loop-holds : tie.Need-loop-holds Inv-loop μ-loop
 loop-holds c =
-    let a = c .before .before .before .before .before .before .before .before .args in
+    let a = c .before .before .before .before .before .before .before .args in
     let l = c .before .layout-of in
     let t = tableOf (a .t .now) in
-    (omega arith, count-crosses (a .t .now) (c .before .before .before .before .before .before .before .before .pre .0) (l .result) (l .ensures .0), c .first-place .ensures, refl, start-none t, marked-none t (a .marks .now))
+    (omega arith, count-crosses (a .t .now) (c .before .before .before .before .before .before .before .pre .0) (l .result) (l .ensures .0), c .first-place .ensures, refl, start-none t, marked-none t (a .marks .now))
 
 shape-of-requires : tie.Need-shape-of-requires Inv-loop μ-loop
 shape-of-requires c κs =
-    let a = c .before .before .before .before .before .before .before .before .before .before .args in
-    let pre = c .before .before .before .before .before .before .before .before .before .before .pre in
+    let a = c .before .before .before .before .before .before .before .before .before .args in
+    let pre = c .before .before .before .before .before .before .before .before .before .pre in
     let s = a .t .now in
     let l = c .before .loop in
     let i = l .inv in
@@ -47,8 +47,8 @@ shape-of-requires c κs =
 
 mul-mark-products : tie.Need-mul-mark-products Inv-loop μ-loop
 mul-mark-products c =
-    let a = c .before .before .before .before .before .before .before .before .before .before .before .args in
-    let pre = c .before .before .before .before .before .before .before .before .before .before .before .pre in
+    let a = c .before .before .before .before .before .before .before .before .before .before .args in
+    let pre = c .before .before .before .before .before .before .before .before .before .before .pre in
     let s = a .t .now in
     let t = tableOf s in
     let l = c .before .before .loop in
@@ -61,8 +61,8 @@ mul-mark-products c =
 
 sub-mark-products : tie.Need-sub-mark-products Inv-loop μ-loop
 sub-mark-products c =
-    let a = c .before .before .before .before .before .before .before .before .before .before .before .args in
-    let pre = c .before .before .before .before .before .before .before .before .before .before .before .pre in
+    let a = c .before .before .before .before .before .before .before .before .before .before .args in
+    let pre = c .before .before .before .before .before .before .before .before .before .before .pre in
     let s = a .t .now in
     let t = tableOf s in
     let l = c .before .before .loop in
@@ -76,8 +76,8 @@ sub-mark-products c =
 
 part-mark-products-start : tie.Need-part-mark-products-start Inv-loop μ-loop
 part-mark-products-start c =
-    let a = c .before .before .before .before .before .before .before .before .before .before .before .args in
-    let pre = c .before .before .before .before .before .before .before .before .before .before .before .pre in
+    let a = c .before .before .before .before .before .before .before .before .before .before .args in
+    let pre = c .before .before .before .before .before .before .before .before .before .before .pre in
     let s = a .t .now in
     let t = tableOf s in
     let l = c .before .before .loop in
@@ -94,8 +94,8 @@ part-mark-products-end c = omega arith
 
 mark-products-requires : tie.Need-mark-products-requires Inv-loop μ-loop
 mark-products-requires c κs =
-    let a = c .before .before .before .before .before .before .before .before .before .before .before .before .args in
-    let pre = c .before .before .before .before .before .before .before .before .before .before .before .before .pre in
+    let a = c .before .before .before .before .before .before .before .before .before .before .before .args in
+    let pre = c .before .before .before .before .before .before .before .before .before .before .before .pre in
     let s = a .t .now in
     let t = tableOf s in
     let l = c .before .before .before .loop in
@@ -110,8 +110,8 @@ mark-products-requires c κs =
 
 add-at : tie.Need-add-at Inv-loop μ-loop
 add-at c =
-    let a = c .before .before .before .before .before .before .before .before .before .before .before .before .before .before .before .before .args in
-    let pre = c .before .before .before .before .before .before .before .before .before .before .before .before .before .before .before .before .pre in
+    let a = c .before .before .before .before .before .before .before .before .before .before .before .before .before .before .before .args in
+    let pre = c .before .before .before .before .before .before .before .before .before .before .before .before .before .before .before .pre in
     let s = a .t .now in
     let t = tableOf s in
     let l = c .before .before .before .before .before .before .before .loop in
@@ -124,8 +124,8 @@ add-at c =
 
 next-place-requires : tie.Need-next-place-requires Inv-loop μ-loop
 next-place-requires c κs =
-    let a = c .before .before .before .before .before .before .before .before .before .before .before .before .before .before .before .before .args in
-    let pre = c .before .before .before .before .before .before .before .before .before .before .before .before .before .before .before .before .pre in
+    let a = c .before .before .before .before .before .before .before .before .before .before .before .before .before .before .before .args in
+    let pre = c .before .before .before .before .before .before .before .before .before .before .before .before .before .before .before .pre in
     let s = a .t .now in
     let l = c .before .before .before .before .before .before .before .loop in
     let i = l .inv in
@@ -134,15 +134,15 @@ next-place-requires c κs =
     stands
 
 add-c : tie.Need-add-c Inv-loop μ-loop
-add-c c = omega (arith, c .before .before .before .before .before .before .before .before .loop .inv .1, c .before .before .before .before .before .before .before .loop-test .taken, few-crosses (c .before .before .before .before .before .before .before .before .before .before .before .before .before .before .before .before .before .args .t .now) (c .before .before .before .before .before .before .before .before .before .before .before .before .before .before .before .before .before .pre .0))
+add-c c = omega (arith, c .before .before .before .before .before .before .before .before .loop .inv .1, c .before .before .before .before .before .before .before .loop-test .taken, few-crosses (c .before .before .before .before .before .before .before .before .before .before .before .before .before .before .before .before .args .t .now) (c .before .before .before .before .before .before .before .before .before .before .before .before .before .before .before .before .pre .0))
 
 loop-less : tie.Need-loop-less Inv-loop μ-loop
 loop-less c = omega (arith, c .before .before .before .before .before .before .before .loop-test .taken)
 
 loop-again : tie.Need-loop-again Inv-loop μ-loop
 loop-again c =
-    let a = c .before .before .before .before .before .before .before .before .before .before .before .before .before .before .before .before .before .args in
-    let pre = c .before .before .before .before .before .before .before .before .before .before .before .before .before .before .before .before .before .pre in
+    let a = c .before .before .before .before .before .before .before .before .before .before .before .before .before .before .before .before .args in
+    let pre = c .before .before .before .before .before .before .before .before .before .before .before .before .before .before .before .before .pre in
     let s = a .t .now in
     let t = tableOf s in
     let l = c .before .before .before .before .before .before .before .before .loop in
@@ -167,7 +167,7 @@ same-length c = c .before .loop .inv .3
 returns : tie.Need-returns Inv-loop μ-loop
 returns c =
     let l = c .before .loop in
-    marked-all (tableOf (c .before .before .before .before .before .before .before .before .before .before .args .t .now)) (l .c) (l .marks) (omega (arith, l .inv .1, c .loop-test .left)) (l .inv .5)
+    marked-all (tableOf (c .before .before .before .before .before .before .before .before .before .args .t .now)) (l .c) (l .marks) (omega (arith, l .inv .1, c .loop-test .left)) (l .inv .5)
 
 pub mark-all-spec : {M : Type 1} → statement M
 mark-all-spec =

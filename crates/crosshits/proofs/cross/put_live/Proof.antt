@@ -7,6 +7,7 @@ use borrow.Author.Needs.{needs}
 use borrow.Rule.Slice.PartMut.{mid-len}
 use Rattle.arrays.proofs.Written.{both-written}
 use Rattle.places.specs.Places.{isSet, placesFrom}
+use Rattle.places.proofs.PlaceLaws.{set-few}
 use Rattle.crosses.specs.Flags.{headsAt, binFlags}
 use Rattle.crosshits.specs.Listed.{ownPlaces}
 use Rattle.crosshits.specs.Cross.{liveFlags, livePlaces}

@@ -5,6 +5,7 @@ use native.Mathlib.Omega.{arith}
 use lib.ListN.{length, getD, take}
 use Rattle.arrays.specs.Put.{put}
 use Rattle.places.specs.Places.{isSet, placesFrom}
+use Rattle.places.proofs.PlaceLaws.{set-few}
 use Rattle.points.proofs.ValueLaws.{places-ready}
 use Rattle.points.proofs.TransitionExact.{transition-count}
 use Rattle.points.proofs.AllLaws.{few-bins}

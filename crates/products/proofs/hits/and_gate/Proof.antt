@@ -47,8 +47,8 @@ returns c =
     let n = a .s .total in
     let v = c .before .before .before .before .before .before .spread-part in
     λ x h.
-    let low = back-low (a .stack .now) (v .last .0) (omega arith) (v .kept .0) n (pre .2 .small) x h in
-    let high = back-high (a .stack .now) (v .last .0) (omega arith) (v .kept .0) n (omega (arith, pre .2 .small)) x h in
+    let low = back-low n (a .stack .now) (v .last .0) (omega arith) (v .kept .0) x h in
+    let high = back-high n (a .stack .now) (v .last .0) (omega arith) (v .kept .0) (pre .3) x h in
     c .before .before .and-into .ensures x h ∙ ap₂ bitAnd low (high ∙ v .ensures x h ∙ ap (λ (p : ℕ). partBit (a .gate .now) (256 * p) (sizesOf (a .s)) (a .q) x) (c .before .before .before .before .before .before .before .before .byte .ensures))
 
 pub and-gate-spec : {M : Type 1} → statement M

@@ -13,10 +13,10 @@ use Rattle.products.proofs.leaves.put_named.Statement.{statement}
 use Rattle.products.proofs.leaves.put_named.Tie as tie
 
 abbrev Inv-loop : tie.InvT-loop
-Inv-loop leaves₀ row origins from b end at₀ i₀ leaves at i = (at ≤ end) × (i ≤ from + 256) × (i + row ≡ from + at) × (length leaves ≡ length leaves₀) × (put at (map (namedBit origins b) (upFrom i (end - at))) leaves ≡ put row (namedFrom origins b from 256) leaves₀)
+Inv-loop leaves₀ row lists from b n end at₀ i₀ leaves at i = (at ≤ end) × (i ≤ from + n) × (i + row ≡ from + at) × (length leaves ≡ length leaves₀) × (put at (map (namedBit lists b) (upFrom i (end - at))) leaves ≡ put row (namedFrom lists b from n) leaves₀)
 
 abbrev μ-loop : tie.MeasureT-loop
-μ-loop leaves₀ row origins from b end at₀ i₀ leaves at i = end - at
+μ-loop leaves₀ row lists from b n end at₀ i₀ leaves at i = end - at
 
 add-end : tie.Need-add-end Inv-loop μ-loop
 add-end c = omega arith
@@ -25,7 +25,7 @@ loop-holds : tie.Need-loop-holds Inv-loop μ-loop
 unfolding namedFrom
 loop-holds c =
     let a = c .before .before .args in
-    let z : a .row + 256 - a .row ≡ 256 = omega arith in
+    let z : a .row + a .n - a .row ≡ a .n = omega arith in
     (omega arith, omega arith, omega arith, refl, rw z)
 
 element-requires : tie.Need-element-requires Inv-loop μ-loop
@@ -54,7 +54,7 @@ loop-again c =
       omega arith,
       omega arith,
       simp length-set (l .inv .3),
-      fill-turn (namedBit (a .origins .now) (a .b)) (l .at) (l .i) (a .row + 256) (l .at) (c .as-bit .result) (l .leaves) _ (l .inv .4) (c .as-bit .ensures ∙ ap (λ (x : ℕ). asBit (eqb x (a .b))) (c .before .element .ensures)) (omega arith) (omega arith),
+      fill-turn (namedBit (a .lists .now) (a .b)) (l .at) (l .i) (a .row + a .n) (l .at) (c .as-bit .result) (l .leaves) _ (l .inv .4) (c .as-bit .ensures ∙ ap (λ (x : ℕ). asBit (eqb x (a .b))) (c .before .element .ensures)) (omega arith) (omega arith),
     )
 
 same-length : tie.Need-same-length Inv-loop μ-loop
@@ -64,7 +64,7 @@ returns : tie.Need-returns Inv-loop μ-loop
 returns c =
     let a = c .before .before .before .before .args in
     let l = c .before .loop in
-    fill-end (namedBit (a .origins .now) (a .b)) (l .at) (l .i) (a .row + 256) (l .at) (l .leaves) _ (l .inv .4) (omega arith)
+    fill-end (namedBit (a .lists .now) (a .b)) (l .at) (l .i) (a .row + a .n) (l .at) (l .leaves) _ (l .inv .4) (omega arith)
 
 pub put-named-spec : {M : Type 1} → statement M
 put-named-spec =
