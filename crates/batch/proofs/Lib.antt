@@ -1,0 +1,4 @@
+pub mod Keeps
+pub mod TurnLaws
+pub mod TopLaws
+pub mod Listed
