@@ -189,6 +189,41 @@ pub fn sample(
     accepted(raw::sample(table, register, sample, report))
 }
 
+/// Some samples of a batch were taken, and the next one was refused: it and those
+/// after it have written nothing.
+#[derive(Clone, Copy, Debug, PartialEq, Eq, Hash)]
+pub struct Halted {
+    /// How many samples were taken.
+    pub taken: usize,
+    pub refusal: Refusal,
+}
+
+impl fmt::Display for Halted {
+    fn fmt(&self, f: &mut fmt::Formatter<'_>) -> fmt::Result {
+        write!(f, "after {} samples, {}", self.taken, self.refusal)
+    }
+}
+
+impl std::error::Error for Halted {}
+
+/// Takes samples one after another, each exactly as [`sample`] does, up to the
+/// first that is refused; answers how many there were. The words of all samples
+/// stand in a row, and so do the reports. What is left after the last whole sample
+/// is refused as a sample of that length is; with no words at all only the table
+/// and the register are tested.
+pub fn samples(
+    table: &[u8],
+    register: &mut [u32],
+    samples: &[u32],
+    reports: &mut [u32],
+) -> Result<usize, Halted> {
+    let (number, taken) = raw::samples(table, register, samples, reports);
+    match accepted(number) {
+        Ok(()) => Ok(taken),
+        Err(refusal) => Err(Halted { taken, refusal }),
+    }
+}
+
 /// A place's count.
 pub fn place_count(table: &[u8], register: &[u32], place: usize) -> Result<u32, Refusal> {
     let (number, count) = raw::place_count(table, register, place);

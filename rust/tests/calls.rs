@@ -71,6 +71,65 @@ fn refusals() {
     assert_eq!(refusal.to_string(), said);
 }
 
+/// One unsigned point of two bits with an illegal bin for 3: an illegal place.
+fn watched() -> Vec<u8> {
+    let mut bytes = vec![1, 0, 2, 0, 255, 1, 0, 1, 0, 0, 0, 64, 0];
+    bytes.extend([1, 0, 0, 2, 0, 0, 0, 255, 1, 0]);
+    bytes.extend([1, 0, 0, 3, 0, 0, 0, 0, 0, 0, 0, 3, 0, 0, 0, 0, 0, 0, 0]);
+    bytes.extend([0; 14]);
+    bytes
+}
+
+/// A batch is its samples one by one, up to the first that is refused.
+#[test]
+fn a_batch() {
+    let bytes = watched();
+    let table = Table::new(&bytes).unwrap();
+    let words: Vec<u32> = [0, 3, 1, 3]
+        .iter()
+        .flat_map(|&v| [0, 0, 0, 0, v, 0])
+        .collect();
+    let mut register = table.register();
+    let mut reports = [7; 5];
+    assert_eq!(samples(&bytes, &mut register, &words, &mut reports), Ok(4));
+    assert_eq!(reports, [0, 1, 0, 1, 7]);
+    let mut single = table.register();
+    for (sample_words, report) in words.chunks(6).zip(reports.chunks(1)) {
+        let mut own = [7];
+        sample(&bytes, &mut single, sample_words, &mut own).unwrap();
+        assert_eq!(own, report);
+    }
+    assert_eq!(register, single);
+
+    let halted = |taken, refusal| Err(Halted { taken, refusal });
+    // The reports have room for two samples.
+    let mut register = table.register();
+    let (number, taken) = raw::samples(&bytes, &mut register, &words, &mut reports[..2]);
+    assert_eq!((number, taken, register[1]), (11, 2, 2));
+    // The third sample is too wide; then it is cut.
+    let mut wide = words.clone();
+    wide[16] = 4;
+    let mut register = table.register();
+    let answer = samples(&bytes, &mut register, &wide, &mut reports);
+    assert_eq!(answer, halted(2, Refusal::SAMPLE_WIDTH));
+    assert_eq!(register[1], 2);
+    let answer = samples(&bytes, &mut register, &words[..17], &mut reports);
+    assert_eq!(answer, halted(2, Refusal::SAMPLE_LENGTH));
+    assert_eq!(register[1], 4);
+    let said = "after 2 samples, refusal 12: the sample has not 4 + 2 x points words";
+    assert_eq!(answer.unwrap_err().to_string(), said);
+    // No words: the table and the register are tested.
+    assert_eq!(samples(&bytes, &mut register, &[], &mut []), Ok(0));
+    stop(&bytes, &mut register).unwrap();
+    assert_eq!(samples(&bytes, &mut register, &[], &mut []), Ok(0));
+    let answer = samples(&bytes, &mut register, &words, &mut reports);
+    assert_eq!(answer, halted(0, Refusal::REGISTER_STOPPED));
+    let answer = samples(&bytes, &mut register[..3], &[], &mut []);
+    assert_eq!(answer, halted(0, Refusal::REGISTER_SHORT));
+    let answer = samples(&bytes[..3], &mut register, &[], &mut []);
+    assert_eq!(answer, halted(0, Refusal::TABLE_CUT));
+}
+
 /// The numbers and names of the C header are those of this crate.
 #[test]
 fn names_of_the_header() {

@@ -38,7 +38,7 @@ module _ (s : List ℕ) (t : Table) (known : decode s ≡ decoded t) (w v r : Li
   abbrev tests : ℕ
   tests = firstFailed (callTests t w (sample v r))
 
-  call-is : call s w (sample v r) ≡ perform tests t w (sample v r)
+  pub call-is : call s w (sample v r) ≡ perform tests t w (sample v r)
   unfolding call onTable
   call-is = ap (λ (o : Outcome). onOutcome o w (sample v r)) known
 

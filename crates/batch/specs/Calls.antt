@@ -28,7 +28,7 @@ firstCalls zero taken cs = take taken cs
 firstCalls (suc n) taken cs = take (suc taken) cs
 
 -- the calls of a batch that answered this number and so many taken
-unfoldable pub batchCalls : List ℕ → ℕ → ℕ → List ℕ → List ℕ → List Call
+abbrev pub batchCalls : List ℕ → ℕ → ℕ → List ℕ → List ℕ → List Call
 batchCalls bytes number taken v r = firstCalls number taken (callsFrom (decode bytes) v r)
 
 -- ---- their responses

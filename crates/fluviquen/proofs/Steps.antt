@@ -180,7 +180,5 @@ step-is s w c x after (groups κs a r e p) = called s w askGroup ∙ asked _ _ _
 
 pub batch-step-is : (s w : List ℕ) (cs : List Call) (rs : List Response) (after : List ℕ) → Batch s w cs rs after → (registerResponses s w cs ≡ rs) × (registerAfter s w cs ≡ after)
 batch-step-is s w cs rs after (batches κs a r e p) =
-    let v = now (a .1 .1 .0) in
-    let q = now (a .1 .1 .1 .0) in
-    let k = batch-is s w v q in
-    rw (p .0, p .1 .0, p .1 .1 .0, p .1 .1 .1) k
+    let b = batch-is s w (now (a .1 .1 .0)) (now (a .1 .1 .1 .0)) in
+    rw (p .0, p .1 .0, p .1 .1 .0, p .1 .1 .1) (b .responses, b .words)
