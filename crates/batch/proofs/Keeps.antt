@@ -1,23 +1,22 @@
 -- An accepted sample keeps the register long enough and consistent, so that of a batch only the first sample can be refused with 7 or 8.
 -- Assumes nothing.
-use mathlib.Core.Path.{_≡_, refl, sym, ap, ap₂, _∙_}
+use mathlib.Core.Path.{_≡_, refl, ap, ap₂, _∙_}
 use mathlib.Core.Bool.{Bool, true, _&&_, cond}
-use mathlib.Core.List.{List, [], _∷_, _++_, append-assoc}
+use mathlib.Core.List.{List, [], _∷_, _++_}
 use Prim.Native.Nat.{ℕ, suc, _+_, _≤_}
 use native.Mathlib.Omega.{arith}
 use lib.Dec.{leb}
-use lib.ListN.{length, take, drop, length-append, length-drop}
-use lib.Seq.{take-at, drop-at, drop-drop, length-take-le}
+use lib.ListN.{length, drop, length-append, length-drop}
 use borrow.Author.Tests.{leb-true, le-leb}
 use Rattle.model.specs.Lists.{upFrom, all, pairUp, asBit, firstFailed}
 use Rattle.model.specs.Table.{Table}
 use Rattle.model.specs.Counters.{counters}
 use Rattle.model.specs.Sampling.{hits, addsUnknown}
-use Rattle.model.specs.Register.{sequences, counterTotal, pointTotal, runTotal, wordsNeeded, flagOf, samplesOf, countsOf, unknownsOf, runsOf, nextRuns, allLengths, runStretches, sampledWords, sample, longEnough, consistent, registerTests, callTests}
+use Rattle.model.specs.Register.{pointTotal, wordsNeeded, flagOf, samplesOf, countsOf, unknownsOf, allLengths, runStretches, sampledWords, sample, longEnough, consistent, registerTests, callTests}
 use Rattle.model.proofs.Booleans.{and-left, and-right}
-use Rattle.model.proofs.Lists.{length-upFrom, first-passed, pair-length}
+use Rattle.model.proofs.Lists.{first-passed}
 use Rattle.model.proofs.RunBits.{asBit-le}
-use Rattle.sequences.proofs.Sequences.{length-nextRuns}
+use Rattle.batch.proofs.SampledWords.{newRuns, newCounts, newUnknowns, counts-length, unknowns-length, runs-length, body, counts-are, unknowns-are}
 
 -- counts that rise by at most 1 stay below the sample word, which rises by 1
 raised : {A : Type 0} (f : A → Bool) (k : ℕ) (xs : List A) (ns : List ℕ) → all (λ n. leb n k) ns ≡ true → all (λ n. leb n (suc k)) (pairUp (λ x n. asBit (f x) + n) xs ns) ≡ true
@@ -29,55 +28,9 @@ raised f k (x ∷ xs) (n ∷ ns) e =
     let b = le-leb (asBit (f x) + n) (suc k) (omega (arith, asBit-le (f x))) in
     rw b (raised f k xs ns (and-right (leb n k) (all (λ n. leb n k) ns) e))
 
-abbrev runs′ : Table → List ℕ → List ℕ → List ℕ
-runs′ t s w = nextRuns t s (sequences t) (runsOf t w)
-
-abbrev counts′ : Table → List ℕ → List ℕ → List ℕ
-counts′ t s w = pairUp (λ ctr n. asBit (hits t s (runStretches (allLengths (t .transitionBins) (runs′ t s w))) ctr) + n) (counters t) (countsOf t w)
-
-abbrev unknowns′ : Table → List ℕ → List ℕ → List ℕ
-unknowns′ t s w = pairUp (λ p n. asBit (addsUnknown t s p) + n) (upFrom 0 (pointTotal t)) (unknownsOf t w)
-
 module _ (t : Table) (s w : List ℕ) (long : longEnough t w ≡ true) where
-  room : 2 + counterTotal t + pointTotal t + runTotal t ≤ length w
-  unfolding wordsNeeded
+  room : wordsNeeded t ≤ length w
   room = leb-true (wordsNeeded t) (length w) long
-
-  counts-length : length (counts′ t s w) ≡ counterTotal t
-  unfolding countsOf
-  counts-length = pair-length _ (counters t) (countsOf t w) (omega (arith, room, length-take-le (counterTotal t) (drop 2 w) (simp length-drop (omega (arith, room)))))
-
-  unknowns-length : length (unknowns′ t s w) ≡ pointTotal t
-  unfolding unknownsOf
-  unknowns-length =
-      pair-length _ (upFrom 0 (pointTotal t)) (unknownsOf t w)
-      (omega (arith, length-upFrom 0 (pointTotal t), length-take-le (pointTotal t) (drop (2 + counterTotal t) w) (simp length-drop (omega (arith, room)))))
-      ∙ length-upFrom 0 (pointTotal t)
-
-  runs-length : length (runs′ t s w) ≡ runTotal t
-  unfolding runsOf
-  runs-length =
-      length-nextRuns t s (sequences t) (runsOf t w)
-      (omega (arith, length-take-le (runTotal t) (drop (2 + counterTotal t + pointTotal t) w) (simp length-drop (omega (arith, room)))))
-
-  rest′ : List ℕ
-  rest′ = runs′ t s w ++ drop (wordsNeeded t) w
-
-  body : drop 2 (sampledWords t s w) ≡ counts′ t s w ++ (unknowns′ t s w ++ rest′)
-  unfolding sampledWords rest′
-  body =
-      append-assoc (counts′ t s w ++ unknowns′ t s w) (runs′ t s w) (drop (wordsNeeded t) w)
-      ∙ append-assoc (counts′ t s w) (unknowns′ t s w) (runs′ t s w ++ drop (wordsNeeded t) w)
-
-  counts-at : countsOf t (sampledWords t s w) ≡ counts′ t s w
-  unfolding countsOf
-  counts-at = ap (take (counterTotal t)) body ∙ take-at (counts′ t s w) (unknowns′ t s w ++ rest′) (counterTotal t) counts-length
-
-  unknowns-at : unknownsOf t (sampledWords t s w) ≡ unknowns′ t s w
-  unfolding unknownsOf
-  unknowns-at =
-      ap (take (pointTotal t)) (sym (drop-drop (counterTotal t) 2 (sampledWords t s w)) ∙ ap (drop (counterTotal t)) body ∙ drop-at (counts′ t s w) (unknowns′ t s w ++ rest′) (counterTotal t) counts-length)
-      ∙ take-at (unknowns′ t s w) rest′ (pointTotal t) unknowns-length
 
   two : 2 ≤ length (sampledWords t s w)
   unfolding sampledWords
@@ -91,35 +44,35 @@ module _ (t : Table) (s w : List ℕ) (long : longEnough t w ≡ true) where
   unfolding sampledWords
   samples-at = refl
 
-  pub keeps-long : longEnough t (sampledWords t s w) ≡ true
-  unfolding wordsNeeded rest′
+  keeps-long : longEnough t (sampledWords t s w) ≡ true
+  unfolding wordsNeeded
   keeps-long =
       le-leb (wordsNeeded t) (length (sampledWords t s w))
       (omega (
         arith,
         length-drop 2 (sampledWords t s w),
-        ap length body,
-        length-append (counts′ t s w) (unknowns′ t s w ++ rest′),
-        length-append (unknowns′ t s w) rest′,
-        length-append (runs′ t s w) (drop (wordsNeeded t) w),
-        counts-length,
-        unknowns-length,
-        runs-length,
+        ap length (body t s w room),
+        length-append (newCounts t s w) (newUnknowns t s w ++ (newRuns t s w ++ drop (wordsNeeded t) w)),
+        length-append (newUnknowns t s w) (newRuns t s w ++ drop (wordsNeeded t) w),
+        length-append (newRuns t s w) (drop (wordsNeeded t) w),
+        counts-length t s w room,
+        unknowns-length t s w room,
+        runs-length t s w room,
         two,
       ))
 
-  pub keeps-consistent : consistent t w ≡ true → consistent t (sampledWords t s w) ≡ true
+  keeps-consistent : consistent t w ≡ true → consistent t (sampledWords t s w) ≡ true
   unfolding consistent
   keeps-consistent e =
       let n = samplesOf w in
       let flag = leb (flagOf w) 1 in
       let ks = all (λ k. leb k n) (countsOf t w) in
       let us = all (λ k. leb k n) (unknownsOf t w) in
-      let ek = raised (hits t s (runStretches (allLengths (t .transitionBins) (runs′ t s w)))) n (counters t) (countsOf t w) (and-right flag ks (and-left (flag && ks) us e)) in
+      let ek = raised (hits t s (runStretches (allLengths (t .transitionBins) (newRuns t s w)))) n (counters t) (countsOf t w) (and-right flag ks (and-left (flag && ks) us e)) in
       let eu = raised (addsUnknown t s) n (upFrom 0 (pointTotal t)) (unknownsOf t w) (and-right (flag && ks) us e) in
       ap₂ (λ (f m : ℕ). leb f 1 && all (λ k. leb k m) (countsOf t (sampledWords t s w)) && all (λ k. leb k m) (unknownsOf t (sampledWords t s w))) flag-at samples-at
-      ∙ ap₂ (λ (x y : List ℕ). flag && all (λ k. leb k (suc n)) x && all (λ k. leb k (suc n)) y) counts-at unknowns-at
-      ∙ ap₂ (λ (x y : Bool). x && y && all (λ k. leb k (suc n)) (unknowns′ t s w)) (and-left flag ks (and-left (flag && ks) us e)) ek
+      ∙ ap₂ (λ (x y : List ℕ). flag && all (λ k. leb k (suc n)) x && all (λ k. leb k (suc n)) y) (counts-are t s w room) (unknowns-are t s w room)
+      ∙ ap₂ (λ (x y : Bool). x && y && all (λ k. leb k (suc n)) (newUnknowns t s w)) (and-left flag ks (and-left (flag && ks) us e)) ek
       ∙ eu
 
 both-pass : (a b : Bool) → a ≡ true → b ≡ true → firstFailed ((a, 7) ∷ (b, 8) ∷ []) ≡ 0
