@@ -12,7 +12,8 @@
  *     with tables and samples shared or not.
  *
  * A register is an array of 32-bit words that the caller lends: flag (1: running), samples, one count per place, one unknown count per
- * point, then the run words of the sequences. Words beyond those are never touched. A refused call writes nothing but the answer's 0.
+ * point, then the run words of the sequences. Words beyond those are never touched. A refused call writes nothing but the answer's 0; of
+ * fluviquen_samples, the refused sample writes nothing.
  *
  * A sample is an array of 32-bit words: guard bits 0 to 31, guard bits 32 to 63, the same of unknown guard bits, then for each point its
  * value bits and its unknown bits. Bits above a point's width are 0 in both, at signed points too: a negative value is given in two's
@@ -74,6 +75,13 @@ uint32_t fluviquen_stop(const uint8_t *table, size_t table_len, uint32_t *reg, s
  * 0. Report words beyond those stay. Refuses with 7, 8, 12, 13, 11, 10, 9. */
 uint32_t fluviquen_sample(const uint8_t *table, size_t table_len, uint32_t *reg, size_t reg_len,
                           const uint32_t *sample, size_t sample_len, uint32_t *report, size_t report_len);
+
+/* Takes samples one after another, each exactly as fluviquen_sample does: the i-th, from 0, has the words from i x (4 + 2 x points) on, and
+ * its report begins at i x illegal places. Ends at the first that is refused and returns its number; `taken` is how many were accepted
+ * before it. What is left after the last whole sample is refused as a sample of that length is (12). With no words at all only the table and
+ * the register are tested (7, 8). */
+uint32_t fluviquen_samples(const uint8_t *table, size_t table_len, uint32_t *reg, size_t reg_len,
+                           const uint32_t *samples, size_t samples_len, uint32_t *reports, size_t reports_len, size_t *taken);
 
 /* Writes a place's count; 0 if refused. Refuses with 7, 8, 14. */
 uint32_t fluviquen_place_count(const uint8_t *table, size_t table_len, const uint32_t *reg, size_t reg_len, size_t place, uint32_t *count);

@@ -721,6 +721,24 @@ impl Book {
         number
     }
 
+    /// Samples one after another, up to the first that is refused.
+    pub fn samples(&mut self, table: &Fed, words: &[u32], reports: &mut [u32]) -> (u32, usize) {
+        let rules = match table {
+            Ok(rules) => rules,
+            Err(number) => return (*number, 0),
+        };
+        let (size, illegal) = (4 + 2 * rules.table.points.len(), rules.illegal_places());
+        let (mut rest, mut taken) = (words, 0);
+        while !rest.is_empty() {
+            let (sample, later) = rest.split_at(size.min(rest.len()));
+            match self.sample(table, sample, &mut reports[taken * illegal..]) {
+                0 => (rest, taken) = (later, taken + 1),
+                number => return (number, taken),
+            }
+        }
+        (0, taken)
+    }
+
     fn refuse_sample(&self, rules: &Rules, words: &[u32], report: &[u32]) -> u32 {
         let points = &rules.table.points;
         if words.len() != 4 + 2 * points.len() {
@@ -738,7 +756,7 @@ impl Book {
         if !self.running {
             return 10;
         }
-        if self.samples() == u32::MAX as usize {
+        if self.sample_count() == u32::MAX as usize {
             return 9;
         }
         0
@@ -751,7 +769,7 @@ impl Book {
         samples.map(|(moment, _)| moment).collect()
     }
 
-    fn samples(&self) -> usize {
+    fn sample_count(&self) -> usize {
         self.moments().len()
     }
 
@@ -853,7 +871,7 @@ impl Book {
 
     /// All words of a register with this history.
     pub fn words(&self, rules: &Rules) -> Vec<u32> {
-        let mut words = vec![self.running.into(), self.samples() as u32];
+        let mut words = vec![self.running.into(), self.sample_count() as u32];
         words.extend(self.counts(rules));
         words.extend(self.unknowns(rules));
         words.extend(self.runs(rules));

@@ -18,6 +18,11 @@ pub enum Call {
         words: Vec<u32>,
         report: usize,
     },
+    /// The words of samples in a row, and the length of their reports.
+    Samples {
+        words: Vec<u32>,
+        reports: usize,
+    },
     PlaceCount(usize),
     UnknownCount(usize),
     ItemFigure(usize),
@@ -27,6 +32,8 @@ pub enum Call {
 #[derive(Clone, Copy, Debug, PartialEq)]
 pub enum Answer {
     Nothing,
+    /// How many samples of a batch were accepted.
+    Taken(usize),
     Count(u32),
     Item(Option<f64>),
     Group(Option<u32>),
@@ -71,6 +78,14 @@ macro_rules! outcome_by {
                 Outcome {
                     report,
                     ..Outcome::of(number)
+                }
+            }
+            Call::Samples { words, reports } => {
+                let mut report = vec![UNTOUCHED; *reports];
+                let (number, taken) = $machine::samples($bytes, $words, words, &mut report);
+                Outcome {
+                    report,
+                    ..Outcome::with(number, Answer::Taken(taken))
                 }
             }
             Call::PlaceCount(place) => {
@@ -119,6 +134,14 @@ pub fn on_book(table: &Fed, book: &mut Book, call: &Call) -> Outcome {
             Outcome {
                 report,
                 ..Outcome::of(number)
+            }
+        }
+        Call::Samples { words, reports } => {
+            let mut report = vec![UNTOUCHED; *reports];
+            let (number, taken) = book.samples(table, words, &mut report);
+            Outcome {
+                report,
+                ..Outcome::with(number, Answer::Taken(taken))
             }
         }
         Call::PlaceCount(place) => {

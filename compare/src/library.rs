@@ -2,7 +2,7 @@
 
 use crate::table::Measure;
 use fluviquen::raw;
-pub use fluviquen::raw::{place_count, reset, sample, start, stop, unknown_count};
+pub use fluviquen::raw::{place_count, reset, sample, samples, start, stop, unknown_count};
 
 pub fn measure(table: &[u8]) -> Measure {
     let (number, words, illegal_places) = raw::measure(table);

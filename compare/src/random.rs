@@ -922,17 +922,45 @@ impl<'t> Caller<'t> {
             words.resize(rng.below(words.len() + 4), 0);
         }
         if rng.chance(2) {
-            let point = rng.below(self.table.points.len());
-            let at = 4 + 2 * point + rng.below(2);
-            let width = self.table.points[point].width;
-            if width < 32 && at < words.len() {
-                words[at] |= 1 << rng.between(width.into(), 31);
-            }
+            self.widen(rng, &mut words);
         }
         if rng.chance(3) {
             report = rng.below(self.layout.illegal_places + 1);
         }
         Call::Sample { words, report }
+    }
+
+    /// Sets a bit above the width of some point, if there is one.
+    fn widen(&self, rng: &mut Rng, words: &mut [u32]) {
+        let point = rng.below(self.table.points.len());
+        let at = 4 + 2 * point + rng.below(2);
+        let width = self.table.points[point].width;
+        if width < 32 && at < words.len() {
+            words[at] |= 1 << rng.between(width.into(), 31);
+        }
+    }
+
+    /// Samples in a row, with the ways in which a batch ends early: a sample that is
+    /// too wide, words cut anywhere, reports that are too short; or no words.
+    pub fn batch(&mut self, rng: &mut Rng) -> Call {
+        let count = rng.below(7);
+        let mut words = Vec::new();
+        for _ in 0..count {
+            let mut sample = self.sample_words(rng);
+            if rng.chance(5) {
+                self.widen(rng, &mut sample);
+            }
+            words.extend(sample);
+        }
+        if rng.chance(15) {
+            words.truncate(rng.below(words.len() + 1));
+        }
+        let room = count * self.layout.illegal_places;
+        let reports = match rng.chance(15) {
+            true => rng.below(room + 1),
+            false => room + rng.below(3),
+        };
+        Call::Samples { words, reports }
     }
 
     /// A sample that no width or length refuses.

@@ -41,6 +41,19 @@ pub fn sample(bytes: &[u8], register: &mut [u32], sample: &[u32], report: &mut [
     }
 }
 
+/// The number of the first refused sample, and how many were taken before it.
+pub fn samples(
+    bytes: &[u8],
+    register: &mut [u32],
+    samples: &[u32],
+    reports: &mut [u32],
+) -> (u32, usize) {
+    match Model::read(bytes) {
+        Ok(model) => model.samples(register, samples, reports),
+        Err(refusal) => (refusal.number, 0),
+    }
+}
+
 /// The refusal number and the place's count.
 pub fn place_count(bytes: &[u8], register: &[u32], place: usize) -> (u32, u32) {
     match table::check(bytes) {
@@ -425,6 +438,28 @@ impl Model {
             self.take_sample(register, sample, report);
         }
         number
+    }
+
+    pub fn samples(
+        &self,
+        register: &mut [u32],
+        samples: &[u32],
+        reports: &mut [u32],
+    ) -> (u32, usize) {
+        let layout = self.layout();
+        if samples.is_empty() {
+            return (refuse_register(layout, register), 0);
+        }
+        let mut taken = 0;
+        for sample in samples.chunks(GUARD_WORDS + 2 * layout.points) {
+            let report = &mut reports[taken * layout.illegal_places..];
+            let number = self.sample(register, sample, report);
+            if number != 0 {
+                return (number, taken);
+            }
+            taken += 1;
+        }
+        (0, taken)
     }
 
     pub fn place_count(&self, register: &[u32], place: usize) -> (u32, u32) {

@@ -80,6 +80,30 @@ static void samples(void) {
     expect("the register after it", (uint32_t)memcmp(reg, after, sizeof after), 0);
 }
 
+static void batches(void) {
+    uint32_t report[1] = { OTHER };
+    size_t taken = OTHER;
+    for (size_t i = 0; i < 6; i++) {
+        reg[i] = OTHER;
+    }
+    expect("samples, no table", fluviquen_samples(NULL, 0, reg, 6, sample, 6, report, 1, &taken), FLUVIQUEN_TABLE_CUT);
+    untouched("samples, no table");
+    expect("samples taken, no table", (uint32_t)taken, 0);
+    expect("samples, no register", fluviquen_samples(table, sizeof table, NULL, 0, sample, 6, report, 1, &taken), FLUVIQUEN_REGISTER_SHORT);
+    expect("samples, nothing", fluviquen_samples(NULL, 0, NULL, 0, NULL, 0, NULL, 0, &taken), FLUVIQUEN_TABLE_CUT);
+    expect("reset", fluviquen_reset(with_illegal, sizeof with_illegal, reg, 6), FLUVIQUEN_ACCEPTED);
+    expect("no reports", fluviquen_samples(with_illegal, sizeof with_illegal, reg, 6, sample, 6, NULL, 0, &taken), FLUVIQUEN_REPORT_SHORT);
+    expect("samples taken, no reports", (uint32_t)taken, 0);
+    taken = OTHER;
+    expect("no samples", fluviquen_samples(with_illegal, sizeof with_illegal, reg, 6, NULL, 0, NULL, 0, &taken), FLUVIQUEN_ACCEPTED);
+    expect("samples taken, none there", (uint32_t)taken, 0);
+    expect("the samples so far", reg[1], 0);
+    expect("the report of refused samples", report[0], OTHER);
+    expect("samples", fluviquen_samples(with_illegal, sizeof with_illegal, reg, 6, sample, 6, report, 1, &taken), FLUVIQUEN_ACCEPTED);
+    expect("samples taken", (uint32_t)taken, 1);
+    expect("their report", report[0], 1);
+}
+
 static void questions(void) {
     const struct {
         const uint8_t *table;
@@ -120,6 +144,7 @@ int main(void) {
     tables();
     registers();
     samples();
+    batches();
     questions();
     return failures != 0;
 }

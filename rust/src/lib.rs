@@ -30,76 +30,18 @@
 //! # Ok::<(), fluviquen::Refusal>(())
 //! ```
 
-use std::fmt;
-
 pub mod raw;
+mod refusal;
+mod register;
 mod sys;
 
-/// Why a table or a call was refused, by document 01's number, 1 to 14. The names
-/// are those of `enum fluviquen_refusal` in include/fluviquen.h.
-#[derive(Clone, Copy, Debug, PartialEq, Eq, Hash, PartialOrd, Ord)]
-pub struct Refusal(u32);
-
-impl Refusal {
-    pub const TABLE_TOO_LONG: Refusal = Refusal(1);
-    pub const TABLE_CUT: Refusal = Refusal(2);
-    pub const TABLE_FIELD: Refusal = Refusal(3);
-    pub const TABLE_DISAGREES: Refusal = Refusal(4);
-    pub const TABLE_LEFTOVER: Refusal = Refusal(5);
-    pub const TABLE_LIMITS: Refusal = Refusal(6);
-    pub const REGISTER_SHORT: Refusal = Refusal(7);
-    pub const REGISTER_IMPOSSIBLE: Refusal = Refusal(8);
-    pub const REGISTER_FULL: Refusal = Refusal(9);
-    pub const REGISTER_STOPPED: Refusal = Refusal(10);
-    pub const REPORT_SHORT: Refusal = Refusal(11);
-    pub const SAMPLE_LENGTH: Refusal = Refusal(12);
-    pub const SAMPLE_WIDTH: Refusal = Refusal(13);
-    pub const NOT_THERE: Refusal = Refusal(14);
-
-    pub fn number(self) -> u32 {
-        self.0
-    }
-
-    /// The refusal in words.
-    pub fn reason(self) -> &'static str {
-        match self {
-            Refusal::TABLE_TOO_LONG => "the table is over 65,536 bytes",
-            Refusal::TABLE_CUT => "a count or record of the table runs past its end",
-            Refusal::TABLE_FIELD => "a count or field of the table is outside its allowed values",
-            Refusal::TABLE_DISAGREES => {
-                "counts, defaults, sequences, crosses or expressions of the table do not agree"
-            }
-            Refusal::TABLE_LEFTOVER => "the table has bytes after section ten",
-            Refusal::TABLE_LIMITS => {
-                "the table has over 256 places at a point, or over 1,024 products in a cross"
-            }
-            Refusal::REGISTER_SHORT => "the register is shorter than the table needs",
-            Refusal::REGISTER_IMPOSSIBLE => {
-                "the register has a flag above 1, or a count above its sample word"
-            }
-            Refusal::REGISTER_FULL => "the register has taken 4,294,967,295 samples",
-            Refusal::REGISTER_STOPPED => "the register is stopped",
-            Refusal::REPORT_SHORT => "the report is shorter than the number of illegal places",
-            Refusal::SAMPLE_LENGTH => "the sample has not 4 + 2 x points words",
-            Refusal::SAMPLE_WIDTH => "the sample has a value or unknown bit above a point's width",
-            Refusal::NOT_THERE => "there is no such place, point or item",
-            _ => "refused",
-        }
-    }
-}
-
-impl fmt::Display for Refusal {
-    fn fmt(&self, f: &mut fmt::Formatter<'_>) -> fmt::Result {
-        write!(f, "refusal {}: {}", self.0, self.reason())
-    }
-}
-
-impl std::error::Error for Refusal {}
+pub use refusal::{Halted, Refusal};
+pub use register::Register;
 
 fn accepted(number: u32) -> Result<(), Refusal> {
     match number {
         0 => Ok(()),
-        number => Err(Refusal(number)),
+        number => Err(Refusal::from_number(number).expect("a number of the library")),
     }
 }
 
@@ -148,7 +90,8 @@ impl<'a> Table<'a> {
         self.measure
     }
 
-    /// A register of the right length, reset.
+    /// The words of a register of the right length, reset; [`Register`] holds them
+    /// with their table.
     pub fn register(&self) -> Vec<u32> {
         let mut words = vec![0; self.measure.words];
         reset(self.bytes, &mut words).expect("an accepted table and a register of its length");
@@ -187,6 +130,24 @@ pub fn sample(
     report: &mut [u32],
 ) -> Result<(), Refusal> {
     accepted(raw::sample(table, register, sample, report))
+}
+
+/// Takes samples one after another, each exactly as [`sample`] does, up to the
+/// first that is refused; answers how many there were. The words of all samples
+/// stand in a row, and so do the reports. What is left after the last whole sample
+/// is refused as a sample of that length is; with no words at all only the table
+/// and the register are tested.
+pub fn samples(
+    table: &[u8],
+    register: &mut [u32],
+    samples: &[u32],
+    reports: &mut [u32],
+) -> Result<usize, Halted> {
+    let (number, taken) = raw::samples(table, register, samples, reports);
+    match accepted(number) {
+        Ok(()) => Ok(taken),
+        Err(refusal) => Err(Halted { taken, refusal }),
+    }
 }
 
 /// A place's count.

@@ -54,6 +54,33 @@ pub fn sample(table: &[u8], register: &mut [u32], sample: &[u32], report: &mut [
     }
 }
 
+/// Number, and how many samples were taken.
+pub fn samples(
+    table: &[u8],
+    register: &mut [u32],
+    samples: &[u32],
+    reports: &mut [u32],
+) -> (u32, usize) {
+    let mut taken = usize::MAX;
+    let (words, len) = (register.as_mut_ptr(), register.len());
+    let (out, room) = (reports.as_mut_ptr(), reports.len());
+    let (table, size) = (table.as_ptr(), table.len());
+    let number = unsafe {
+        fluviquen_samples(
+            table,
+            size,
+            words,
+            len,
+            samples.as_ptr(),
+            samples.len(),
+            out,
+            room,
+            &mut taken,
+        )
+    };
+    (number, taken)
+}
+
 /// Number and count.
 pub fn place_count(table: &[u8], register: &[u32], place: usize) -> (u32, u32) {
     let mut count = u32::MAX;

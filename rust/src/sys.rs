@@ -38,6 +38,17 @@ extern "C" {
         report: *mut u32,
         report_len: usize,
     ) -> u32;
+    pub fn fluviquen_samples(
+        table: *const u8,
+        table_len: usize,
+        reg: *mut u32,
+        reg_len: usize,
+        samples: *const u32,
+        samples_len: usize,
+        reports: *mut u32,
+        reports_len: usize,
+        taken: *mut usize,
+    ) -> u32;
     pub fn fluviquen_place_count(
         table: *const u8,
         table_len: usize,

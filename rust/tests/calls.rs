@@ -71,24 +71,122 @@ fn refusals() {
     assert_eq!(refusal.to_string(), said);
 }
 
+/// One unsigned point of two bits with an illegal bin for 3: an illegal place.
+fn watched() -> Vec<u8> {
+    let mut bytes = vec![1, 0, 2, 0, 255, 1, 0, 1, 0, 0, 0, 64, 0];
+    bytes.extend([1, 0, 0, 2, 0, 0, 0, 255, 1, 0]);
+    bytes.extend([1, 0, 0, 3, 0, 0, 0, 0, 0, 0, 0, 3, 0, 0, 0, 0, 0, 0, 0]);
+    bytes.extend([0; 14]);
+    bytes
+}
+
+/// A batch is its samples one by one, up to the first that is refused.
+#[test]
+fn a_batch() {
+    let bytes = watched();
+    let table = Table::new(&bytes).unwrap();
+    let words: Vec<u32> = [0, 3, 1, 3]
+        .iter()
+        .flat_map(|&v| [0, 0, 0, 0, v, 0])
+        .collect();
+    let mut register = table.register();
+    let mut reports = [7; 5];
+    assert_eq!(samples(&bytes, &mut register, &words, &mut reports), Ok(4));
+    assert_eq!(reports, [0, 1, 0, 1, 7]);
+    let mut single = table.register();
+    for (sample_words, report) in words.chunks(6).zip(reports.chunks(1)) {
+        let mut own = [7];
+        sample(&bytes, &mut single, sample_words, &mut own).unwrap();
+        assert_eq!(own, report);
+    }
+    assert_eq!(register, single);
+
+    let halted = |taken, refusal| Err(Halted { taken, refusal });
+    // The reports have room for two samples.
+    let mut register = table.register();
+    let (number, taken) = raw::samples(&bytes, &mut register, &words, &mut reports[..2]);
+    assert_eq!((number, taken, register[1]), (11, 2, 2));
+    // The third sample is too wide; then it is cut.
+    let mut wide = words.clone();
+    wide[16] = 4;
+    let mut register = table.register();
+    let answer = samples(&bytes, &mut register, &wide, &mut reports);
+    assert_eq!(answer, halted(2, Refusal::SampleWidth));
+    assert_eq!(register[1], 2);
+    let answer = samples(&bytes, &mut register, &words[..17], &mut reports);
+    assert_eq!(answer, halted(2, Refusal::SampleLength));
+    assert_eq!(register[1], 4);
+    let said = "after 2 samples, refusal 12: the sample has not 4 + 2 x points words";
+    assert_eq!(answer.unwrap_err().to_string(), said);
+    // No words: the table and the register are tested.
+    assert_eq!(samples(&bytes, &mut register, &[], &mut []), Ok(0));
+    stop(&bytes, &mut register).unwrap();
+    assert_eq!(samples(&bytes, &mut register, &[], &mut []), Ok(0));
+    let answer = samples(&bytes, &mut register, &words, &mut reports);
+    assert_eq!(answer, halted(0, Refusal::RegisterStopped));
+    let answer = samples(&bytes, &mut register[..3], &[], &mut []);
+    assert_eq!(answer, halted(0, Refusal::RegisterShort));
+    let answer = samples(&bytes[..3], &mut register, &[], &mut []);
+    assert_eq!(answer, halted(0, Refusal::TableCut));
+}
+
+/// A register with its table: the same answers as the plain functions.
+#[test]
+fn a_register_with_its_table() {
+    let bytes = watched();
+    let table = Table::new(&bytes).unwrap();
+    let mut register = Register::new(table);
+    let mut report = table.report();
+    register.sample(&[0, 0, 0, 0, 1, 0], &mut report).unwrap();
+    let rest = [0, 0, 0, 0, 3, 0, 0, 0, 0, 0, 0, 1];
+    assert_eq!(register.samples(&rest, &mut [7; 2]), Ok(2));
+    assert_eq!((register.taken(), register.is_running()), (3, true));
+    // The illegal bin, then an auto bin for each value; that of 3 is left with none.
+    assert_eq!(register.counts(), [1, 0, 1, 0, 0]);
+    assert_eq!(register.count(2), Ok(1));
+    assert_eq!(register.count(5), Err(Refusal::NotThere));
+    assert_eq!(register.unknown_count(0), Ok(1));
+    assert_eq!(register.figure(1), Err(Refusal::NotThere));
+    assert_eq!(register.figures(), [Some(100.0 / 3.0)]);
+    assert_eq!(register.group_figure(), Some(33_333_333));
+    register.stop();
+    let halted = register.samples(&rest, &mut report).unwrap_err();
+    assert_eq!(
+        (halted.taken, halted.refusal),
+        (0, Refusal::RegisterStopped)
+    );
+    let mut kept = Register::from_words(table, register.words().to_vec()).unwrap();
+    kept.start();
+    assert!(kept.is_running() && !register.is_running());
+    assert_eq!(kept.words()[1..], register.words()[1..]);
+    kept.reset();
+    assert_eq!(kept.into_words(), table.register());
+    assert_eq!(register.table().bytes(), bytes);
+    let short = Register::from_words(table, vec![1, 0]);
+    assert_eq!(number(short), 7);
+    let mut impossible = table.register();
+    impossible[2] = 1;
+    assert_eq!(number(Register::from_words(table, impossible)), 8);
+}
+
 /// The numbers and names of the C header are those of this crate.
 #[test]
 fn names_of_the_header() {
     let names = [
-        ("TABLE_TOO_LONG", Refusal::TABLE_TOO_LONG),
-        ("TABLE_CUT", Refusal::TABLE_CUT),
-        ("TABLE_FIELD", Refusal::TABLE_FIELD),
-        ("TABLE_DISAGREES", Refusal::TABLE_DISAGREES),
-        ("TABLE_LEFTOVER", Refusal::TABLE_LEFTOVER),
-        ("TABLE_LIMITS", Refusal::TABLE_LIMITS),
-        ("REGISTER_SHORT", Refusal::REGISTER_SHORT),
-        ("REGISTER_IMPOSSIBLE", Refusal::REGISTER_IMPOSSIBLE),
-        ("REGISTER_FULL", Refusal::REGISTER_FULL),
-        ("REGISTER_STOPPED", Refusal::REGISTER_STOPPED),
-        ("REPORT_SHORT", Refusal::REPORT_SHORT),
-        ("SAMPLE_LENGTH", Refusal::SAMPLE_LENGTH),
-        ("SAMPLE_WIDTH", Refusal::SAMPLE_WIDTH),
-        ("NOT_THERE", Refusal::NOT_THERE),
+        ("TABLE_TOO_LONG", Refusal::TableTooLong),
+        ("TABLE_CUT", Refusal::TableCut),
+        ("TABLE_FIELD", Refusal::TableField),
+        ("TABLE_DISAGREES", Refusal::TableDisagrees),
+        ("TABLE_LEFTOVER", Refusal::TableLeftover),
+        ("TABLE_LIMITS", Refusal::TableLimits),
+        ("REGISTER_SHORT", Refusal::RegisterShort),
+        ("REGISTER_IMPOSSIBLE", Refusal::RegisterImpossible),
+        ("REGISTER_FULL", Refusal::RegisterFull),
+        ("REGISTER_STOPPED", Refusal::RegisterStopped),
+        ("REPORT_SHORT", Refusal::ReportShort),
+        ("SAMPLE_LENGTH", Refusal::SampleLength),
+        ("SAMPLE_WIDTH", Refusal::SampleWidth),
+        ("NOT_THERE", Refusal::NotThere),
     ];
     let header = include_str!("../../include/fluviquen.h");
     let (_, after) = header.split_once("enum fluviquen_refusal {").unwrap();
@@ -97,10 +195,13 @@ fn names_of_the_header() {
     let lines: Vec<&str> = lines.into_iter().filter(|line| !line.is_empty()).collect();
     assert_eq!(lines[0], "FLUVIQUEN_ACCEPTED = 0,");
     assert_eq!(lines.len(), 1 + names.len());
+    assert_eq!(names.map(|(_, refusal)| refusal), Refusal::ALL);
+    assert_eq!(Refusal::from_number(0), None);
     for ((name, refusal), line) in names.iter().zip(&lines[1..]) {
         let (code, comment) = line.split_once("/*").unwrap();
         let expected = format!("FLUVIQUEN_{name} = {}", refusal.number());
         assert_eq!(code.trim().trim_end_matches(','), expected);
+        assert_eq!(Refusal::from_number(refusal.number()), Some(*refusal));
         let said = comment.trim_end_matches("*/").trim();
         assert!(said.starts_with(refusal.reason()), "{said}");
     }
@@ -205,8 +306,15 @@ fn every_call(bytes: &[u8], words: &[u32]) -> Seen {
     }
     stop(bytes, &mut register).unwrap();
     start(bytes, &mut register).unwrap();
+    let mut batched = register.clone();
+    let mut reports = [&report[..], &report[..]].concat();
+    let taken = samples(bytes, &mut batched, &words.repeat(2), &mut reports);
+    assert_eq!(taken, Ok(2));
     sample(bytes, &mut register, words, &mut report).unwrap();
+    assert_eq!(reports[..report.len()], report);
     sample(bytes, &mut register, words, &mut report).unwrap();
+    assert_eq!(reports[report.len()..], report);
+    assert_eq!(batched, register);
     for number in 1..=10 {
         section(bytes, number).unwrap();
     }

@@ -2,12 +2,22 @@
 -- Assumes nothing.
 use mathlib.Core.Path.{_≡_, refl, sym, ap, _∙_}
 use mathlib.Core.List.{List}
-use Prim.Native.Nat.{ℕ, zero, suc}
+use Prim.Native.Nat.{ℕ, zero, suc, _*_}
 use native.Mathlib.Omega.{arith}
+use lib.ListN.{take, drop}
+use contract.Lifetimes.{Lfts}
+use denote.Ref.{now}
+use denote.Triple.Clauses.{AtExit}
+use borrow.Fn.Kinds.{Dens, endedOf, resT}
 use Rattle.model.specs.Lists.{firstFailed}
 use Rattle.model.specs.Table.{Table}
-use Rattle.model.specs.Format.{Outcome, rejected, decoded, decode, numberOf}
-use Rattle.model.specs.Register.{Call, reset, start, stop, sample, askCounter, askUnknown, askItem, askGroup, Response, Effect, refusedResponse, refuse, callTests, accept, perform, onTable, onOutcome, call}
+use Rattle.model.specs.Format.{Outcome, rejected, decoded, decode, numberOf, tableOf}
+use Rattle.model.specs.Register.{illegalTotal, Call, reset, start, stop, sample, askCounter, askUnknown, askItem, askGroup, Response, Effect, refusedResponse, refuse, callTests, accept, perform, onTable, onOutcome, call}
+use Rattle.model.specs.Reference.{registerAfter}
+use Rattle.batch.specs.Calls.{callsFrom}
+use Rattle.batch.proofs.Listed.{batch-is}
+use Rattle.fluviquen.proofs.fluviquen_samples.Kinds as SamplesK
+use Rattle.fluviquen.proofs.fluviquen_samples.Reads as Samples
 use Rattle.fluviquen.proofs.Steps.{Step, step-is}
 
 numbered : (t : Table) (w : List ℕ) (c : Call) → accept t w c .response .number ≡ 0
@@ -49,3 +59,14 @@ demand1 s w c x after h n e =
     let k = step-is s w c x after h in
     let z = sym k ∙ refused s w c n (ap (λ (f : Effect). f .response .number) k ∙ e) in
     (ap (λ (f : Effect). f .words) z, ap (λ (f : Effect). f .response) z)
+
+-- A batch, refused or not, leaves the register as the samples that it took do, and the reports' words beyond theirs as they came.
+pub demand1-batch : (κs : Lfts 5) (a : Dens κs SamplesK.ps) (r : resT SamplesK.r κs .Denot) (e : AtExit (endedOf 5 SamplesK.ps SamplesK.r) κs) → Samples.Learnt κs a r e
+    → (let s = now (a .0) in
+    let q = now (a .1 .1 .1 .0) in
+    let taken = now (e .1 .1 .1 .1 .0) in
+    let n = taken * illegalTotal (tableOf s) in
+    (registerAfter s (now (a .1 .0)) (take taken (callsFrom (decode s) (now (a .1 .1 .0)) q)) ≡ now (e .1 .0)) × (drop n (now (e .1 .1 .1 .0)) ≡ drop n q))
+demand1-batch κs a r e p =
+    let b = batch-is (now (a .0)) (now (a .1 .0)) (now (a .1 .1 .0)) (now (a .1 .1 .1 .0)) in
+    rw (p .1 .0, p .1 .1 .0, p .1 .1 .1) (b .kept, b .stays)

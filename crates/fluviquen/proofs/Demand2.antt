@@ -1,12 +1,12 @@
 -- Demand 2: an accepted sample raises exactly the counters that `hits` names, by 1, and reports exactly the illegal ones; the group's figure keeps its bounds.
 -- Assumes nothing.
 use mathlib.Core.Path.{_≡_, refl, sym, ap, _∙_}
-use mathlib.Core.List.{List, _++_, map, append-assoc}
+use mathlib.Core.List.{List, _++_, map}
 use mathlib.Core.Option.{some}
 use Prim.Native.Nat.{ℕ, zero, suc, _+_, _≤_}
 use native.Mathlib.Omega.{arith}
-use lib.ListN.{length, take, drop, length-map, length-drop}
-use lib.Seq.{take-at, drop-at, drop-drop, length-take-le}
+use lib.ListN.{length, take, drop, length-map}
+use lib.Seq.{take-at, drop-at}
 use borrow.Author.Tests.{leb-true}
 use Rattle.model.specs.Lists.{upFrom, keep, pairUp, asBit, firstFailed}
 use Rattle.model.specs.Table.{Table}
@@ -14,10 +14,10 @@ use Rattle.model.specs.Counters.{counters, isIllegal}
 use Rattle.model.specs.Sampling.{Stretches, hits, addsUnknown}
 use Rattle.model.specs.Figures.{itemAt, itemCount, groupFigure, GroupBound}
 use Rattle.model.specs.Format.{Outcome, decoded, decode}
-use Rattle.model.specs.Register.{counterTotal, pointTotal, runTotal, wordsNeeded, illegalTotal, flagOf, samplesOf, countsOf, unknownsOf, runsOf, sequences, nextRuns, allLengths, runStretches, sampledWords, reportWords, sampledReport, sample, askGroup, millionths, Response, Effect, longEnough, callTests, accept, perform, onTable, onOutcome, call}
-use Rattle.model.proofs.Lists.{pair-length, length-upFrom, length-keep, first-passed}
+use Rattle.model.specs.Register.{pointTotal, wordsNeeded, illegalTotal, flagOf, samplesOf, countsOf, unknownsOf, runsOf, sequences, nextRuns, allLengths, runStretches, sampledWords, reportWords, sampledReport, sample, askGroup, millionths, Response, Effect, longEnough, callTests, accept, perform, onTable, onOutcome, call}
+use Rattle.model.proofs.Lists.{length-keep, first-passed}
 use Rattle.model.proofs.Group.{group-figure-bound}
-use Rattle.sequences.proofs.Sequences.{length-nextRuns}
+use Rattle.batch.proofs.SampledWords.{newRuns, counts-are, unknowns-are, runs-are, beyond-are}
 use Rattle.fluviquen.proofs.Steps.{Step, step-is}
 
 -- ---- a sample
@@ -39,94 +39,33 @@ pub record Sampled (t : Table) (v w p after report : List ℕ) : Type 0 where
   pub stays : drop (illegalTotal t) report ≡ drop (illegalTotal t) p
 
 module _ (t : Table) (v w p : List ℕ) (long : wordsNeeded t ≤ length w) where
-  room : 2 + counterTotal t + pointTotal t + runTotal t ≤ length w
-  unfolding wordsNeeded
-  room = long
-
-  newRuns : List ℕ
-  newRuns = nextRuns t v (sequences t) (runsOf t w)
-
-  newCounts : List ℕ
-  newCounts = pairUp (λ ctr n. asBit (hits t v (stretchesBy t newRuns) ctr) + n) (counters t) (countsOf t w)
-
-  newUnknowns : List ℕ
-  newUnknowns = pairUp (λ q n. asBit (addsUnknown t v q) + n) (upFrom 0 (pointTotal t)) (unknownsOf t w)
-
-  wordsBeyond : List ℕ
-  wordsBeyond = drop (wordsNeeded t) w
-
-  after : List ℕ
-  after = sampledWords t v w
-
-  counts-length : length newCounts ≡ counterTotal t
-  unfolding newCounts countsOf
-  counts-length =
-      let k : counterTotal t ≤ length (drop 2 w) = simp length-drop (omega (arith, room)) in
-      pair-length _ (counters t) _ (omega (arith, length-take-le (counterTotal t) (drop 2 w) k))
-
-  unknowns-length : length newUnknowns ≡ pointTotal t
-  unfolding newUnknowns unknownsOf
-  unknowns-length =
-      let k : pointTotal t ≤ length (drop (2 + counterTotal t) w) = simp length-drop (omega (arith, room)) in
-      pair-length _ (upFrom 0 (pointTotal t)) _ (omega (arith, length-upFrom 0 (pointTotal t), length-take-le (pointTotal t) (drop (2 + counterTotal t) w) k)) ∙ length-upFrom 0 (pointTotal t)
-
-  runs-length : length newRuns ≡ runTotal t
-  unfolding newRuns runsOf
-  runs-length =
-      let k : runTotal t ≤ length (drop (2 + counterTotal t + pointTotal t) w) = simp length-drop (omega (arith, room)) in
-      length-nextRuns t v (sequences t) _ (omega (arith, length-take-le (runTotal t) (drop (2 + counterTotal t + pointTotal t) w) k))
-
-  body : drop 2 after ≡ newCounts ++ (newUnknowns ++ (newRuns ++ wordsBeyond))
-  unfolding after sampledWords newCounts newUnknowns newRuns wordsBeyond
-  body = append-assoc (newCounts ++ newUnknowns) newRuns wordsBeyond ∙ append-assoc newCounts newUnknowns (newRuns ++ wordsBeyond)
-
-  counts-are : countsOf t after ≡ newCounts
-  unfolding countsOf
-  counts-are = ap (take (counterTotal t)) body ∙ take-at newCounts (newUnknowns ++ (newRuns ++ wordsBeyond)) (counterTotal t) counts-length
-
-  past-counts : drop (2 + counterTotal t) after ≡ newUnknowns ++ (newRuns ++ wordsBeyond)
-  past-counts = sym (drop-drop (counterTotal t) 2 after) ∙ ap (drop (counterTotal t)) body ∙ drop-at newCounts (newUnknowns ++ (newRuns ++ wordsBeyond)) (counterTotal t) counts-length
-
-  unknowns-are : unknownsOf t after ≡ newUnknowns
-  unfolding unknownsOf
-  unknowns-are = ap (take (pointTotal t)) past-counts ∙ take-at newUnknowns (newRuns ++ wordsBeyond) (pointTotal t) unknowns-length
-
-  past-unknowns : drop (2 + counterTotal t + pointTotal t) after ≡ newRuns ++ wordsBeyond
-  past-unknowns = sym (drop-drop (pointTotal t) (2 + counterTotal t) after) ∙ ap (drop (pointTotal t)) past-counts ∙ drop-at newUnknowns (newRuns ++ wordsBeyond) (pointTotal t) unknowns-length
-
-  runs-are : runsOf t after ≡ newRuns
-  unfolding runsOf
-  runs-are = ap (take (runTotal t)) past-unknowns ∙ take-at newRuns wordsBeyond (runTotal t) runs-length
-
-  beyond-are : drop (wordsNeeded t) after ≡ wordsBeyond
-  unfolding wordsNeeded
-  beyond-are = sym (drop-drop (runTotal t) (2 + counterTotal t + pointTotal t) after) ∙ ap (drop (runTotal t)) past-unknowns ∙ drop-at newRuns wordsBeyond (runTotal t) runs-length
-
   flags : List ℕ
-  flags = map (λ ctr. asBit (hits t v (stretchesBy t newRuns) ctr)) (keep isIllegal (counters t))
+  flags = map (λ ctr. asBit (hits t v (stretchesBy t (newRuns t v w)) ctr)) (keep isIllegal (counters t))
 
   flags-length : length flags ≡ illegalTotal t
   unfolding flags illegalTotal
-  flags-length = length-map (keep isIllegal (counters t)) (λ ctr. asBit (hits t v (stretchesBy t newRuns) ctr)) ∙ length-keep isIllegal (counters t)
+  flags-length = length-map (keep isIllegal (counters t)) (λ ctr. asBit (hits t v (stretchesBy t (newRuns t v w)) ctr)) ∙ length-keep isIllegal (counters t)
 
   report-is : sampledReport t v w p ≡ flags ++ drop (illegalTotal t) p
-  unfolding sampledReport reportWords flags newRuns
+  unfolding sampledReport reportWords flags
   report-is = refl
 
   pub sampled : Sampled t v w p (sampledWords t v w) (sampledReport t v w p)
-  unfolding after sampledWords newCounts newUnknowns newRuns wordsBeyond flags
-  sampled = record {
-    flag = refl;
-    samples = refl;
-    runs = runs-are;
-    counts = counts-are ∙ ap (λ (runs : List ℕ). pairUp (λ ctr n. asBit (hits t v (stretchesBy t runs) ctr) + n) (counters t) (countsOf t w)) (sym runs-are);
-    unknowns = unknowns-are;
-    beyond = beyond-are;
-    reported =
-        ap (take (illegalTotal t)) report-is ∙ take-at flags (drop (illegalTotal t) p) (illegalTotal t) flags-length
-        ∙ ap (λ (runs : List ℕ). map (λ ctr. asBit (hits t v (stretchesBy t runs) ctr)) (keep isIllegal (counters t))) (sym runs-are);
-    stays = ap (drop (illegalTotal t)) report-is ∙ drop-at flags (drop (illegalTotal t) p) (illegalTotal t) flags-length;
-  }
+  unfolding sampledWords flags
+  sampled =
+      let runs = runs-are t v w long in
+      record {
+        flag = refl;
+        samples = refl;
+        runs = runs;
+        counts = counts-are t v w long ∙ ap (λ (runs : List ℕ). pairUp (λ ctr n. asBit (hits t v (stretchesBy t runs) ctr) + n) (counters t) (countsOf t w)) (sym runs);
+        unknowns = unknowns-are t v w long;
+        beyond = beyond-are t v w long;
+        reported =
+            ap (take (illegalTotal t)) report-is ∙ take-at flags (drop (illegalTotal t) p) (illegalTotal t) flags-length
+            ∙ ap (λ (runs : List ℕ). map (λ ctr. asBit (hits t v (stretchesBy t runs) ctr)) (keep isIllegal (counters t))) (sym runs);
+        stays = ap (drop (illegalTotal t)) report-is ∙ drop-at flags (drop (illegalTotal t) p) (illegalTotal t) flags-length;
+      }
 
 -- An accepted call of `fluviquen_sample`.
 pub demand2-sample : (s w v p : List ℕ) (x : Response) (after : List ℕ) → Step s w (sample v p) x after → (t : Table) → decode s ≡ decoded t → x .number ≡ 0

@@ -12,8 +12,11 @@ use denote.Triple.Clauses.{AtExit}
 use borrow.Fn.Kinds.{Dens, endedOf, resT}
 use Rattle.model.specs.Lists.{firstFailed}
 use Rattle.model.specs.Table.{Table}
-use Rattle.model.specs.Format.{Outcome, rejected, decoded, decode}
-use Rattle.model.specs.Register.{Call, reset, start, stop, sample, askCounter, askUnknown, askItem, askGroup, Answer, nothing, counted, percent, millionths, Response, Effect, callTests, accept, perform, onTable, onOutcome, call}
+use Rattle.model.specs.Format.{Outcome, rejected, decoded, decode, tableOf}
+use Rattle.model.specs.Register.{illegalTotal, Call, reset, start, stop, sample, askCounter, askUnknown, askItem, askGroup, Answer, nothing, counted, percent, millionths, Response, Effect, callTests, accept, perform, onTable, onOutcome, call}
+use Rattle.model.specs.Reference.{registerResponses, registerAfter}
+use Rattle.batch.specs.Calls.{batchCalls, batchResponses}
+use Rattle.batch.proofs.Listed.{batch-is}
 use Rattle.fluviquen.specs.Answers.{countIn, presentIn, percentIn, millionthsIn}
 use Rattle.fluviquen.proofs.fluviquen_reset.Kinds as ResetK
 use Rattle.fluviquen.proofs.fluviquen_reset.Reads as Reset
@@ -23,6 +26,8 @@ use Rattle.fluviquen.proofs.fluviquen_stop.Kinds as StopK
 use Rattle.fluviquen.proofs.fluviquen_stop.Reads as Stop
 use Rattle.fluviquen.proofs.fluviquen_sample.Kinds as SampleK
 use Rattle.fluviquen.proofs.fluviquen_sample.Reads as Sample
+use Rattle.fluviquen.proofs.fluviquen_samples.Kinds as SamplesK
+use Rattle.fluviquen.proofs.fluviquen_samples.Reads as Samples
 use Rattle.fluviquen.proofs.fluviquen_place_count.Kinds as PlaceK
 use Rattle.fluviquen.proofs.fluviquen_place_count.Reads as Place
 use Rattle.fluviquen.proofs.fluviquen_unknown_count.Kinds as UnknownK
@@ -64,6 +69,13 @@ pub data Step : List ℕ → List ℕ → Call → Response → List ℕ → Typ
   groups : (κs : Lfts 4) (a : Dens κs GroupK.ps) (r : resT GroupK.r κs .Denot) (e : AtExit (endedOf 4 GroupK.ps GroupK.r) κs)
       → Group.Learnt κs a r e
       → Step (now (a .0)) (now (a .1 .0)) askGroup (response r (millionths (read (now (e .1 .1 .0)) (now (e .1 .1 .1 .0)))) []) (now (a .1 .0))
+
+-- One call of fluviquen_samples: the sample calls that it stands for, their responses as its caller reads them, and the words that it leaves.
+pub data Batch : List ℕ → List ℕ → List Call → List Response → List ℕ → Type 0 where
+  batches : (κs : Lfts 5) (a : Dens κs SamplesK.ps) (r : resT SamplesK.r κs .Denot) (e : AtExit (endedOf 5 SamplesK.ps SamplesK.r) κs)
+      → Samples.Learnt κs a r e
+      → Batch (now (a .0)) (now (a .1 .0)) (batchCalls (now (a .0)) r (now (e .1 .1 .1 .1 .0)) (now (a .1 .1 .0)) (now (a .1 .1 .1 .0)))
+      (batchResponses (illegalTotal (tableOf (now (a .0)))) r (now (e .1 .1 .1 .1 .0)) (now (a .1 .1 .0)) (now (a .1 .1 .1 .0)) (now (e .1 .1 .1 .0))) (now (e .1 .0))
 
 -- ---- a step is the whole effect of the model's call
 
@@ -163,3 +175,10 @@ step-is s w c x after (unknowns κs a r e p) = called s w (askUnknown (a .1 .1 .
 step-is s w c x after (items κs a r e p) =
     called s w (askItem (a .1 .1 .0)) ∙ asked _ _ _ _ w (p .0) (ap₂ (λ (n : ℕ) (f : Float). percent (read n f)) (p .1 .0) (p .1 .1))
 step-is s w c x after (groups κs a r e p) = called s w askGroup ∙ asked _ _ _ _ w (p .0) (ap₂ (λ (n m : ℕ). millionths (read n m)) (p .1 .0) (p .1 .1))
+
+-- ---- a batch is the list of its sample calls
+
+pub batch-step-is : (s w : List ℕ) (cs : List Call) (rs : List Response) (after : List ℕ) → Batch s w cs rs after → (registerResponses s w cs ≡ rs) × (registerAfter s w cs ≡ after)
+batch-step-is s w cs rs after (batches κs a r e p) =
+    let b = batch-is s w (now (a .1 .1 .0)) (now (a .1 .1 .1 .0)) in
+    rw (p .0, p .1 .0, p .1 .1 .0, p .1 .1 .1) (b .responses, b .words)

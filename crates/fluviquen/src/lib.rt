@@ -4,6 +4,7 @@ ghost use Prim.Native.Nat.{_+_, _≤_};
 ghost use lib.ListN.{length, take, drop};
 ghost use Rattle.model.specs.Register as Model;
 ghost use Rattle.table.specs.Check.{sectionStart};
+ghost use Rattle.batch.specs.Batch.{batch};
 ghost use Rattle.fluviquen.specs.Answers.{countIn, presentIn, percentIn, millionthsIn};
 
 // The table's refusal number; the words of a register and of a report, 0 and 0 if it is refused.
@@ -78,6 +79,25 @@ pub extern "C" fn fluviquen_sample(
     ensures { λ _. ⌜ now (report .exit) ≡ Model.call (now (table .entry)) (now (reg .entry)) (Model.sample (now (sample .entry)) (now (report .entry))) .response .report ⌝ }
 {
     register::sample(table, reg, sample, report)
+}
+
+// Takes samples in turn, up to the first that is refused: their words stand one after another, and so do their reports.
+#[no_mangle]
+pub extern "C" fn fluviquen_samples(
+    table: &[u8],
+    reg: &mut [u32],
+    samples: &[u32],
+    reports: &mut [u32],
+    taken: &mut usize,
+) -> u32
+    ensures { λ r. ⌜ r ≡ batch (now (table .entry)) (now (reg .entry)) (now (samples .entry)) (now (reports .entry)) .number ⌝ }
+    ensures { λ _. ⌜ now (taken .exit) ≡ batch (now (table .entry)) (now (reg .entry)) (now (samples .entry)) (now (reports .entry)) .taken ⌝ }
+    ensures { λ _. ⌜ now (reg .exit) ≡ batch (now (table .entry)) (now (reg .entry)) (now (samples .entry)) (now (reports .entry)) .words ⌝ }
+    ensures { λ _. ⌜ now (reports .exit) ≡ batch (now (table .entry)) (now (reg .entry)) (now (samples .entry)) (now (reports .entry)) .reports ⌝ }
+{
+    let a = batch::samples(table, reg, samples, reports);
+    *taken = a.taken;
+    a.number
 }
 
 // A place's count; 0 if refused.

@@ -26,7 +26,7 @@ module _ (s : List ℕ) (f : Facts) (v report : List ℕ) where
       ∙ all-same (inWidthAt s v) _ 0 (pointTotal t) λ p lo h.
       ap (λ (x : Point). ltb (valueWord v p) (2 ^ x .width) && ltb (unknownWord v p) (2 ^ x .width)) (sym (point-raw s t e p (omega arith)))
 
-  own-by : (t : Table) → decode s ≡ decoded t → Describes f t → (flag samples : ℕ)
+  pub own-by : (t : Table) → decode s ≡ decoded t → Describes f t → (flag samples : ℕ)
       → ownRefusal s f v report flag samples ≡ firstFailed (sampleTests t v report (eqb flag 1) samples)
   unfolding ownRefusal firstFailed
   own-by t e d flag samples = rw (d .points, d .illegals, widths-by t e (pointTotal t) refl)

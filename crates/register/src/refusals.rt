@@ -113,7 +113,14 @@ fn unless(ok: bool, number: u32, rest: u32) -> u32
 }
 
 // The sample's own tests, last first, for a register with this flag and so many samples.
-fn own_refusal(t: &[u8], sample: &[u32], report: &[u32], flag: u32, samples: u32, f: Facts) -> u32
+pub fn own_refusal(
+    t: &[u8],
+    sample: &[u32],
+    report: &[u32],
+    flag: u32,
+    samples: u32,
+    f: Facts,
+) -> u32
     requires { ⌜ Few f ⌝ }
     ensures { λ r. ⌜ r ≡ ownRefusal (now (t .entry)) f (now (sample .entry)) (now (report .entry)) flag samples ⌝ }
 {

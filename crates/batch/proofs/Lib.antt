@@ -1,0 +1,5 @@
+pub mod SampledWords
+pub mod Keeps
+pub mod TurnLaws
+pub mod TopLaws
+pub mod Listed
