@@ -3,7 +3,7 @@
 use mathlib.Core.Path.{_≡_, refl, sym, ap, ap₂, _∙_, subst}
 use mathlib.Core.Bool.{Bool, true, false, not, _&&_, _||_, cond}
 use mathlib.Core.List.{List, [], _∷_, _++_}
-use Prim.Native.Nat.{ℕ, zero, suc, _+_, _-_, _*_, _≤_, _<_}
+use Prim.Native.Nat.{ℕ, zero, suc, _+_, _-_, _*_, _≤_}
 use native.Mathlib.Omega.{arith}
 use lib.Dec.{eqb, leb}
 use lib.ListN.{length}
@@ -11,11 +11,11 @@ use Rattle.model.specs.Table.{ValueBin, isCover}
 use Rattle.model.specs.Values.{lowest}
 use Rattle.model.specs.Format.{byte, u16, pointRecord}
 use Rattle.model.specs.Raw.{binsAt}
-use Rattle.values.specs.Points.{isOwn, someOwn, hasAutoAt}
+use Rattle.values.specs.Points.{isOwn, someOwn}
 use Rattle.spans.specs.Part.{OthersTo, OthersFrom, rangesPast, PartOf}
 use Rattle.spans.proofs.PartLaws.{shift, first-other, ownBins, own-part}
 use Rattle.parts.specs.Rows.{Source, binSource, ownSources, autoSource, partTotal}
-use Rattle.parts.specs.Words.{allRangeWords, allBinWords, rangeWordsAt, binWordsAt, partsIn, ownListed, ownAt, listedIf, Fits, Room, sourcesAt}
+use Rattle.parts.specs.Words.{allRangeWords, allBinWords, ownListed, Fits, Room, sourcesAt}
 use Rattle.parts.proofs.Plans.{range-words, bin-words, part-count}
 
 module _ (s : List ℕ) (p : ℕ) where

@@ -1,7 +1,6 @@
-use mathlib.Core.Path.{_≡_, refl, ap, ap₂, _∙_}
-use Prim.Native.Nat.{ℕ, _+_, _-_, _*_, _≤_}
+use mathlib.Core.Path.{_≡_}
+use Prim.Native.Nat.{_+_, _-_, _*_, _≤_}
 use native.Mathlib.Omega.{arith}
-use Rattle.model.specs.Format.{u16}
 use Rattle.spans.specs.Part.{OthersTo, rangesPast}
 use Rattle.spans.proofs.PartLaws.{past-start, past-turn, other-at, others-more, part-from}
 use Rattle.spans.proofs.part.from_first.Statement.{statement}
