@@ -47,6 +47,8 @@ use Rattle.parts.proofs.FlagLaws.{Sounds}
 use Rattle.parts.proofs.Exact.{Deals, DealsIn, all-sound, parts-exact}
 use Rattle.parts.proofs.Plans.{own-is, range-words, bin-words, part-count, all-light}
 use Rattle.parts.proofs.PointPlans.{length-all, sources-raw}
+use Rattle.spans.specs.Part.{OwnPart}
+use Rattle.parts.proofs.Narrow.{part-fits, part-listed, part-room, part-sources}
 use Rattle.parts.proofs.RowLaws.{all-climb, rows-typed, all-typed, length-rows-from, own-fewer, few-ranges}
 
 -- ---- the record of a cover bin: form 1 has ranges, form 2 a number of at least 1
@@ -274,9 +276,11 @@ module _ (s : List ℕ) (ok : accepted s ≡ true) (p : ℕ) (inside : p < point
       (own-listed-fewer s p (recordsPlace s 1) (recordsPlace s 2) (recordCount s 1))
 
   module _ (l : Layout) (el : l ≡ layoutOf s) where
-    pub near-at : Near (l .points + 11 * p) (l .bins) (l .ranges) (l .«bin_count») (l .transitions) (l .«transition_count»)
+    pub near-at : (b q m : ℕ) → b < 1000000000 → q < 1000000000 → m ≤ 512 → Near (l .points + 11 * p) b q m (l .transitions) (l .«transition_count»)
     unfolding layoutOf
-    near-at = subst (λ (x : Layout). Near (x .points + 11 * p) (x .bins) (x .ranges) (x .«bin_count») (x .transitions) (x .«transition_count»)) (sym el) (all-near s T e p inside)
+    near-at b q m hb hq hm =
+        let near = subst (λ (x : Layout). Near (x .points + 11 * p) (x .bins) (x .ranges) (x .«bin_count») (x .transitions) (x .«transition_count»)) (sym el) (all-near s T e p inside) in
+        record { point-near = near .point-near; bins-near = hb; ranges-near = hq; few-bins = hm; transitions-near = near .transitions-near; few-transitions = near .few-transitions }
 
     pub wide-at : Wide s (l .points + 11 * p)
     unfolding layoutOf
@@ -286,21 +290,26 @@ module _ (s : List ℕ) (ok : accepted s ≡ true) (p : ℕ) (inside : p < point
     unfolding layoutOf
     auto-at = subst (λ (x : Layout). 1 ≤ u16 s (x .points + 11 * p + 9)) (sym el) (some-auto s T e p inside)
 
-    pub fits-at : Fits s (lowest (pointRecord s (l .points + 11 * p))) p (l .bins) (l .ranges) (l .«bin_count»)
-    unfolding layoutOf
-    fits-at = subst (λ (x : Layout). Fits s (lowest (pointRecord s (x .points + 11 * p))) p (x .bins) (x .ranges) (x .«bin_count»)) (sym el) fits-raw
+    module _ (b q m : ℕ) (o : OwnPart s p b q m) where
+      pub fits-at : Fits s (lowest (pointRecord s (l .points + 11 * p))) p b q m
+      unfolding layoutOf
+      fits-at =
+          subst (λ (x : Layout). Fits s (lowest (pointRecord s (x .points + 11 * p))) p b q m) (sym el)
+          (part-fits s p (recordsPlace s 1) (recordsPlace s 2) (recordCount s 1) b q m o (lowest (pointRecord s (recordsPlace s 0 + 11 * p))) fits-raw)
 
-    pub listed-at : ownListed s p (l .bins) (l .«bin_count») ≤ rangesListed T p
-    unfolding layoutOf
-    listed-at = subst (λ (x : Layout). ownListed s p (x .bins) (x .«bin_count») ≤ rangesListed T p) (sym el) listed-raw
+      pub listed-at : ownListed s p b m ≤ rangesListed T p
+      listed-at = omega (arith, part-listed s p (recordsPlace s 1) (recordsPlace s 2) (recordCount s 1) b q m o, listed-raw)
 
-    pub room-at : (x y : List ℕ) → 5 * (rangesListed T p + 1) ≤ length x → 3 * (length (T .valueBins) + 1) ≤ length y → Room s (lowest (pointRecord s (l .points + 11 * p))) p (l .bins) (l .ranges) (l .«bin_count») x y
-    unfolding layoutOf
-    room-at x y hx hy = subst (λ (z : Layout). Room s (lowest (pointRecord s (z .points + 11 * p))) p (z .bins) (z .ranges) (z .«bin_count») x y) (sym el) (room-raw x y hx hy)
+      pub room-at : (x y : List ℕ) → 5 * (rangesListed T p + 1) ≤ length x → 3 * (length (T .valueBins) + 1) ≤ length y → Room s (lowest (pointRecord s (l .points + 11 * p))) p b q m x y
+      unfolding layoutOf
+      room-at x y hx hy =
+          subst (λ (z : Layout). Room s (lowest (pointRecord s (z .points + 11 * p))) p b q m x y) (sym el)
+          (part-room s p (recordsPlace s 1) (recordsPlace s 2) (recordCount s 1) b q m o (lowest (pointRecord s (recordsPlace s 0 + 11 * p))) x y (room-raw x y hx hy))
 
-    pub rows-at : (x y : List ℕ) (n m : ℕ) → Planned (sourcesAt s p (l .points + 11 * p) (l .bins) (l .ranges) (l .«bin_count») (l .transitions) (l .«transition_count»)) x y n m
-        → RowsOf (tableOf s) p (rowsAt x y 0 n) m × (n ≤ 1025) × (m ≤ 256)
-    unfolding layoutOf
-    rows-at x y n m plan =
-        rows-of x y n m (subst (λ (ss : List Source). Planned ss x y n m)
-        (ap (λ (z : Layout). sourcesAt s p (z .points + 11 * p) (z .bins) (z .ranges) (z .«bin_count») (z .transitions) (z .«transition_count»)) el ∙ sym (sources-raw s T e p inside)) plan)
+      pub rows-at : (x y : List ℕ) (n k : ℕ) → Planned (sourcesAt s p (l .points + 11 * p) b q m (l .transitions) (l .«transition_count»)) x y n k
+          → RowsOf (tableOf s) p (rowsAt x y 0 n) k × (n ≤ 1025) × (k ≤ 256)
+      unfolding layoutOf
+      rows-at x y n k plan =
+          rows-of x y n k (subst (λ (ss : List Source). Planned ss x y n k)
+          (ap (λ (z : Layout). sourcesAt s p (z .points + 11 * p) b q m (z .transitions) (z .«transition_count»)) el
+          ∙ part-sources s p (recordsPlace s 1) (recordsPlace s 2) (recordCount s 1) b q m o (recordsPlace s 0 + 11 * p) (recordsPlace s 3) (recordCount s 3) ∙ sym (sources-raw s T e p inside)) plan)

@@ -12,3 +12,4 @@ pub mod PointPlans
 pub mod RowLaws
 pub mod Accepted
 pub mod PlanRows
+pub mod Narrow

@@ -8,6 +8,7 @@ use native.Mathlib.Omega.{arith}
 use lib.ListN.{length, getD, set, take, drop, length-take, length-drop, drop-of-length-le}
 use lib.Seq.{getD-drop, getD-take, ext-getD, take-at, take-take}
 use borrow.Author.Tests.{lt-ltb, le-ltb}
+use Rattle.model.specs.Lists.{all}
 use Rattle.model.specs.Table.{Range, span, pattern, Table}
 use Rattle.model.specs.Values.{lowest, highest}
 use Rattle.model.specs.Counters.{pointAt}
@@ -22,7 +23,9 @@ use Rattle.ranges.specs.Taken.{excludedAt}
 use Rattle.layout.specs.Places.{layoutOf}
 use Rattle.layout.specs.declared.Layout.{Layout}
 use Rattle.spans.specs.Spans.{Settled}
-use Rattle.spans.specs.Collected.{wordsFrom, Collectable}
+use Rattle.spans.specs.Collected.{fitsFrom, wordsFrom, Collectable}
+use Rattle.spans.specs.Part.{OwnPart}
+use Rattle.spans.proofs.PartLaws.{excluded-part}
 use Rattle.spans.proofs.Exact.{accepted-collectable}
 use Rattle.spans.proofs.Point.{spans-of, excluded-listed}
 use Rattle.spans.specs.Point.{SpansOf, freeValue, rangesListed}
@@ -208,22 +211,25 @@ pub counts-at : (s : List ℕ) (l : Layout) → l ≡ layoutOf s → (l .«range
 unfolding layoutOf
 counts-at s l el = (ap (λ (x : Layout). x .«range_count») el, ap (λ (x : Layout). x .«bin_count») el)
 
--- a point's spans
+-- a point's spans, from a part of the value bins that has all of the point's
 
-module _ (s : List ℕ) (ok : accepted s ≡ true) (p : ℕ) (l : Layout) (el : l ≡ layoutOf s) (low : ℕ) (e : low ≡ lowest (pointAt (tableOf s) p)) where
-  pub collectable : (room : ℕ) → rangesListed (tableOf s) p ≤ room → Collectable s (l .bins) (l .ranges) (l .«bin_count») p low room
-  unfolding layoutOf
-  collectable room h =
-      subst (λ (x : Layout). Collectable s (x .bins) (x .ranges) (x .«bin_count») p low room) (sym el)
-      (subst (λ (y : ℕ). Collectable s (recordsPlace s 1) (recordsPlace s 2) (recordCount s 1) p y room) (sym e) (accepted-collectable s ok p room (omega (arith, excluded-listed s ok p))))
+module _ (s : List ℕ) (ok : accepted s ≡ true) (p b q m : ℕ) (own : OwnPart s p b q m) (low : ℕ) (e : low ≡ lowest (pointAt (tableOf s) p)) where
+  same : excludedAt s b q m p ≡ excludedAt s (recordsPlace s 1) (recordsPlace s 2) (recordCount s 1) p
+  same = excluded-part s p (recordsPlace s 1) (recordsPlace s 2) (recordCount s 1) b q m own
 
-  pub settled-spans : (ws : List ℕ) → Settled (wordsFrom low (excludedAt s (l .bins) (l .ranges) (l .«bin_count») p)) ws → SpansOf (tableOf s) p ws
-  unfolding layoutOf
-  settled-spans ws o =
-      spans-of s ok p ws
-      (subst (λ (y : ℕ). Settled (wordsFrom y (excludedAt s (recordsPlace s 1) (recordsPlace s 2) (recordCount s 1) p)) ws) e
-      (subst (λ (x : Layout). Settled (wordsFrom low (excludedAt s (x .bins) (x .ranges) (x .«bin_count») p)) ws) el o))
+  pub collectable : (room : ℕ) → rangesListed (tableOf s) p ≤ room → b < 1000000000 → q < 1000000000 → m ≤ 512 → Collectable s b q m p low room
+  collectable room h hb hq hm =
+      let whole = accepted-collectable s ok p room (omega (arith, excluded-listed s ok p)) in
+      record {
+        near = omega arith;
+        nearRanges = omega arith;
+        few = hm;
+        fits = omega (arith, ap length same, whole .fits);
+        spans = ap₂ (λ (x : ℕ) (rs : List Range). all (fitsFrom x) rs) e same ∙ whole .spans;
+      }
 
-  pub spans-listed : length (excludedAt s (l .bins) (l .ranges) (l .«bin_count») p) ≤ rangesListed (tableOf s) p
-  unfolding layoutOf
-  spans-listed = subst (λ (x : Layout). length (excludedAt s (x .bins) (x .ranges) (x .«bin_count») p) ≤ rangesListed (tableOf s) p) (sym el) (excluded-listed s ok p)
+  pub settled-spans : (ws : List ℕ) → Settled (wordsFrom low (excludedAt s b q m p)) ws → SpansOf (tableOf s) p ws
+  settled-spans ws o = spans-of s ok p ws (subst (λ (xs : List ℕ). Settled xs ws) (ap₂ (λ (x : ℕ) (rs : List Range). wordsFrom x rs) e same) o)
+
+  pub spans-listed : length (excludedAt s b q m p) ≤ rangesListed (tableOf s) p
+  spans-listed = omega (arith, ap length same, excluded-listed s ok p)

@@ -7,6 +7,7 @@ use parts::points::Built;
 use parts::points::put_rows;
 use spans::collects::Bins;
 use spans::collects::spans_of;
+use spans::part::own_part;
 use words::bytes::read2;
 ghost use mathlib.Core.Path.{_≡_};
 ghost use mathlib.Core.Bool.{true};
@@ -17,23 +18,19 @@ ghost use Rattle.model.specs.Raw.{recordCount};
 ghost use Rattle.model.specs.Register.{pointTotal};
 ghost use Rattle.arrays.specs.Put.{put};
 ghost use Rattle.spans.specs.Point.{SpansOf, rangesListed};
+ghost use Rattle.spans.specs.Part.{OwnPart};
 ghost use Rattle.parts.specs.Words.{rowsAt};
 ghost use Rattle.parts.specs.Point.{RowsOf};
 ghost use Rattle.pieces.specs.Plan.{PointPlan, ValuesPlan, pointNeed, planNeed};
 
-// The excluded spans of point p, from the start of out. Answers how many.
-fn put_excluded(out: &mut [u64], room: &mut [u64], t: &[u8], p: usize) -> usize
+// The excluded spans of point p, whose value bins are among those of `own`, from the start of out. Answers how many.
+fn put_excluded(out: &mut [u64], room: &mut [u64], t: &[u8], own: Bins, p: usize) -> usize
     requires { ⌜ (accepted (now t) ≡ true) × (p < pointTotal (tableOf (now t))) × (rangesListed (tableOf (now t)) p ≤ length (now room)) × (length (now room) ≤ length (now out)) ⌝ }
+    requires { ⌜ OwnPart (now t) p (own .bins) (own .ranges) (own .count) × (own .bins < 1000000000) × (own .ranges < 1000000000) × (own .count ≤ 512) ⌝ }
     ensures { λ r. ⌜ SpansOf (tableOf (now (t .entry))) p (take r (now (out .exit))) × (r ≤ rangesListed (tableOf (now (t .entry))) p) × (r ≤ length (now (out .entry))) ⌝ }
 {
-    let l = layout_of(t);
-    let place = Bins {
-        bins: l.bins,
-        ranges: l.ranges,
-        count: l.bin_count,
-    };
     let q = limits_of(t, p);
-    spans_of(out, room, t, place, p as u8, q.low)
+    spans_of(out, room, t, own, p as u8, q.low)
 }
 
 // Words from at on.
@@ -103,8 +100,9 @@ fn put_point(
     ensures { λ r. ⌜ PointPlan (tableOf (now (t .entry))) (next .point) (now (plan .exit)) (next .at) (r .mid) (r .rows) (r .end) × (take (next .at) (now (plan .exit)) ≡ take (next .at) (now (plan .entry))) × (r .end ≤ next .at + pointNeed (tableOf (now (t .entry))) (next .point)) ⌝ }
 {
     let p = next.point;
-    let b = put_rows(w, bins, room, sorted, t, p);
-    let k = put_excluded(sorted, room, t, p);
+    let own = own_part(t, p as u8);
+    let b = put_rows(w, bins, room, sorted, t, own, p);
+    let k = put_excluded(sorted, room, t, own, p);
     put_by_rows(plan, w, bins, b, &sorted[..k], t, next)
 }
 

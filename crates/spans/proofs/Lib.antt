@@ -5,3 +5,4 @@ pub mod LookLaws
 pub mod CollectLaws
 pub mod Exact
 pub mod Point
+pub mod PartLaws

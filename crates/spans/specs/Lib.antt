@@ -1,3 +1,4 @@
 pub mod Spans
 pub mod Collected
 pub mod Point
+pub mod Part

@@ -9,22 +9,22 @@ use Rattle.parts.proofs.points.put_rows.Tie as tie
 layout-of-requires : tie.Need-layout-of-requires
 layout-of-requires c κs = search needs
 
-mul-t9 : tie.Need-mul-t9
-mul-t9 c =
+mul-t10 : tie.Need-mul-t10
+mul-t10 c =
     let g = c .before .before .before .before .before .before in
-    let few : g .args .p < 16 = omega (arith, g .pre .1, few-points (g .args .t .now) (g .pre .0)) in
+    let few : g .args .p < 16 = omega (arith, g .pre .0 .1, few-points (g .args .t .now) (g .pre .0 .0)) in
     omega arith
 
-add-t10 : tie.Need-add-t10
-add-t10 c =
+add-t11 : tie.Need-add-t11
+add-t11 c =
     let g = c .before .before .before .before .before .before .before in
-    let few : g .args .p < 16 = omega (arith, g .pre .1, few-points (g .args .t .now) (g .pre .0)) in
+    let few : g .args .p < 16 = omega (arith, g .pre .0 .1, few-points (g .args .t .now) (g .pre .0 .0)) in
     omega (arith, c .before .layout-of .ensures .1 .points)
 
 cast-put-point : tie.Need-cast-put-point
 cast-put-point c =
     let g = c .before .before .before .before .before .before .before .before .before .before .before in
-    let few : g .args .p < 16 = omega (arith, g .pre .1, few-points (g .args .t .now) (g .pre .0)) in
+    let few : g .args .p < 16 = omega (arith, g .pre .0 .1, few-points (g .args .t .now) (g .pre .0 .0)) in
     omega arith
 
 put-point-requires : tie.Need-put-point-requires
@@ -33,13 +33,13 @@ put-point-requires c κs =
     let a = g .args in
     let s = a .t .now in
     let d = c .before .before .before .before .before .layout-of in
-    let near = near-at s (g .pre .0) (a .p) (g .pre .1) (d .result) (d .ensures .0) in
-    let wide = wide-at s (g .pre .0) (a .p) (g .pre .1) (d .result) (d .ensures .0) in
-    let auto = auto-at s (g .pre .0) (a .p) (g .pre .1) (d .result) (d .ensures .0) in
-    let fits = fits-at s (g .pre .0) (a .p) (g .pre .1) (d .result) (d .ensures .0) in
-    let room = room-at s (g .pre .0) (a .p) (g .pre .1) (d .result) (d .ensures .0) (a .w .now) (a .bins .now) (g .pre .2) (g .pre .3) in
-    let some = listed-at s (g .pre .0) (a .p) (g .pre .1) (d .result) (d .ensures .0) in
-    ((near, wide, auto, fits), (room, omega (arith, some, g .pre .4), g .pre .5))
+    let near = near-at s (g .pre .0 .0) (a .p) (g .pre .0 .1) (d .result) (d .ensures .0) (a .own .bins) (a .own .ranges) (a .own .count) (g .pre .1 .1) (g .pre .1 .2) (g .pre .1 .3) in
+    let wide = wide-at s (g .pre .0 .0) (a .p) (g .pre .0 .1) (d .result) (d .ensures .0) in
+    let auto = auto-at s (g .pre .0 .0) (a .p) (g .pre .0 .1) (d .result) (d .ensures .0) in
+    let fits = fits-at s (g .pre .0 .0) (a .p) (g .pre .0 .1) (d .result) (d .ensures .0) (a .own .bins) (a .own .ranges) (a .own .count) (g .pre .1 .0) in
+    let room = room-at s (g .pre .0 .0) (a .p) (g .pre .0 .1) (d .result) (d .ensures .0) (a .own .bins) (a .own .ranges) (a .own .count) (g .pre .1 .0) (a .w .now) (a .bins .now) (g .pre .0 .2) (g .pre .0 .3) in
+    let some = listed-at s (g .pre .0 .0) (a .p) (g .pre .0 .1) (d .result) (d .ensures .0) (a .own .bins) (a .own .ranges) (a .own .count) (g .pre .1 .0) in
+    ((near, wide, auto, fits), (room, omega (arith, some, g .pre .0 .4), g .pre .0 .5))
 
 same-length : tie.Need-same-length
 same-length c = search needs
@@ -58,15 +58,15 @@ returns c =
     let g = c .before .before .before .before .before .before .before .before .before .before .before .before .before .before .before .before .before .before .before .before in
     let a = g .args in
     let d = c .before .before .before .before .before .before .before .before .before .before .before .before .before .before .layout-of in
-    rows-at (a .t .now) (g .pre .0) (a .p) (g .pre .1) (d .result) (d .ensures .0) _ _ _ _ (c .before .before .before .before .before .before .before .before .put-point .ensures)
+    rows-at (a .t .now) (g .pre .0 .0) (a .p) (g .pre .0 .1) (d .result) (d .ensures .0) (a .own .bins) (a .own .ranges) (a .own .count) (g .pre .1 .0) _ _ _ _ (c .before .before .before .before .before .before .before .before .put-point .ensures)
 
 pub put-rows-spec : {M : Type 1} → statement M
 put-rows-spec =
     tie.close
     (tie.spec
     layout-of-requires
-    mul-t9
-    add-t10
+    mul-t10
+    add-t11
     cast-put-point
     put-point-requires
     same-length

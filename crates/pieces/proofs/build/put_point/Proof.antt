@@ -1,15 +1,29 @@
 use mathlib.Core.Path.{sym}
 use native.Mathlib.Omega.{arith}
 use lib.Seq.{length-take-le}
+use Rattle.model.proofs.RawExact.{few-points}
 use borrow.Author.Needs.{needs}
 use Rattle.pieces.proofs.build.put_point.Statement.{statement}
 use Rattle.pieces.proofs.build.put_point.Tie as tie
 
+cast-own-part : tie.Need-cast-own-part
+cast-own-part c = omega (arith, few-points (c .before .before .before .before .before .before .args .t .now) (c .before .before .before .before .before .before .pre .0 .0))
+
+own-part-requires : tie.Need-own-part-requires
+own-part-requires c κs = search needs
+
 put-rows-requires : tie.Need-put-rows-requires
-put-rows-requires c κs = search needs
+put-rows-requires c κs =
+    let q = c .before .before .before .before .before .before .before .before .before .before .before .pre in
+    let o = c .before .before .before .before .own-part .ensures in
+    ((q .0 .0, q .0 .1, q .1 .0, q .1 .1, q .1 .2, q .1 .3), (o .0, o .1 .0, o .1 .1, o .1 .2))
 
 put-excluded-requires : tie.Need-put-excluded-requires
-put-excluded-requires c κs = search needs
+put-excluded-requires c κs =
+    let q = c .before .before .before .before .before .before .before .before .before .before .before .before .before .before .before .before .before .before .before .before .before .before .pre in
+    let k = c .before .before .before .before .before .before .before .before .before .before .put-rows .kept in
+    let o = c .before .before .before .before .before .before .before .before .before .before .before .before .before .before .before .own-part .ensures in
+    ((q .0 .0, q .0 .1, omega (arith, k .1 .1 .0, q .1 .2), omega (arith, k .1 .1 .0, k .1 .1 .1 .0, q .1 .3)), (o .0, o .1 .0, o .1 .1, o .1 .2))
 
 slice-reshare-prefix-put-by-rows : tie.Need-slice-reshare-prefix-put-by-rows
 slice-reshare-prefix-put-by-rows c = search needs
@@ -21,7 +35,7 @@ slice-aggregate-put-by-rows c =
 
 put-by-rows-requires : tie.Need-put-by-rows-requires
 put-by-rows-requires c κs =
-    let q = c .before .before .before .before .before .before .before .before .before .before .before .before .before .before .before .before .before .before .before .before .before .before .before .before .before .before .before .before .before .before .pre in
+    let q = c .before .before .before .before .before .before .before .before .before .before .before .before .before .before .before .before .before .before .before .before .before .before .before .before .before .before .before .before .before .before .before .pre in
     let x = c .before .before .before .before .before .before .before .before .put-excluded in
     let r = c .before .before .before .before .before .before .before .before .before .before .before .before .before .before .before .before .before .before .before .put-rows .ensures in
     let k = length-take-le (x .result) (x .last .0) (omega (arith, x .kept .0, x .ensures .2)) in
@@ -49,6 +63,8 @@ pub put-point-spec : {M : Type 1} → statement M
 put-point-spec =
     tie.close
     (tie.spec
+    cast-own-part
+    own-part-requires
     put-rows-requires
     put-excluded-requires
     slice-reshare-prefix-put-by-rows

@@ -1,9 +1,8 @@
 use mathlib.Core.Path.{_≡_, refl, sym, subst}
 use mathlib.Core.List.{List}
-use Prim.Native.Nat.{ℕ, _+_, _-_, _*_, _≤_, _<_}
+use Prim.Native.Nat.{ℕ, _+_, _-_, _*_}
 use native.Mathlib.Nat.{zero-add}
 use native.Mathlib.Omega.{arith}
-use lib.ListN.{length}
 use Rattle.arrays.proofs.Written.{Written, written-start, written-end, written-room, written-turn}
 use Rattle.parts.specs.Words.{rowAt, planWords, planWordsAt, RowFits}
 use Rattle.parts.proofs.RaiseLaws.{row-in}

@@ -1,0 +1,148 @@
+-- Bins of other points do not matter to a point.
+-- Assumes nothing.
+use mathlib.Core.Path.{_≡_, refl, sym, ap, ap₂, _∙_, subst}
+use mathlib.Core.Bool.{Bool, true, false, _&&_, cond}
+use mathlib.Core.List.{List, [], _∷_, _++_}
+use Prim.Native.Nat.{ℕ, zero, suc, _+_, _-_, _*_, _≤_, _<_}
+use native.Mathlib.Omega.{arith}
+use lib.Dec.{eqb, ltb}
+use borrow.Author.Tests.{ltb-true, ltb-false, ne-eqb}
+use Rattle.model.specs.Table.{Kind, ValueBin, excludes}
+use Rattle.model.specs.Format.{byte, u16}
+use Rattle.model.specs.Ranges.{rangesOf}
+use Rattle.model.specs.Raw.{binAt, binsAt, recordsPlace, recordCount}
+use Rattle.layout.specs.Places.{layoutOf}
+use Rattle.layout.specs.declared.Layout.{Layout}
+use Rattle.ranges.specs.Taken.{excludedAt}
+use Rattle.spans.specs.Part.{Other, OthersFrom, OthersTo, rangesPast, PartOf, OwnPart}
+
+-- ---- found
+
+past-next : (s : List ℕ) (k a r : ℕ) → rangesPast s a r (suc k) ≡ rangesPast s a r k + 17 * u16 s (a + 8 * k + 6)
+unfolding rangesPast
+past-next s zero a r = ap (λ (x : ℕ). r + 17 * u16 s (x + 6)) (let z : a ≡ a + 8 * 0 = omega arith in z)
+past-next s (suc k) a r =
+    past-next s k (a + 8) (r + 17 * u16 s (a + 6))
+    ∙ ap (λ (x : ℕ). rangesPast s (a + 8) (r + 17 * u16 s (a + 6)) k + 17 * u16 s (x + 6)) (let z : a + 8 + 8 * k ≡ a + 8 * suc k = omega arith in z)
+
+pub past-start : (s : List ℕ) (a r : ℕ) → r ≡ rangesPast s a r 0
+unfolding rangesPast
+past-start s a r = refl
+
+pub past-turn : (s : List ℕ) (i a₀ r₀ a r k : ℕ) → a ≡ a₀ + 8 * i → r ≡ rangesPast s a₀ r₀ i → k ≡ u16 s (a + 6) → r + 17 * k ≡ rangesPast s a₀ r₀ (i + 1)
+past-turn s i a₀ r₀ a r k ea er ek = ap₂ (λ (x y : ℕ). x + 17 * y) er (ek ∙ ap (λ (x : ℕ). u16 s (x + 6)) ea) ∙ sym (past-next s i a₀ r₀) ∙ ap (rangesPast s a₀ r₀) (let z : suc i ≡ i + 1 = omega arith in z)
+
+pub other-at : (s : List ℕ) (p a₀ i a v : ℕ) → a ≡ a₀ + 8 * i → v ≡ byte s a → (v ≡ p → ⊥) → Other s p (a₀ + 8 * i)
+other-at s p a₀ i a v ea e h = ne-eqb (byte s (a₀ + 8 * i)) p (λ z. h (e ∙ ap (byte s) ea ∙ z))
+
+pub others-more : (s : List ℕ) (p a i : ℕ) → OthersTo s p a i → Other s p (a + 8 * i) → OthersTo s p a (i + 1)
+others-more s p a i done here j h = go (ltb j i) refl
+  where
+    go : (c : Bool) → ltb j i ≡ c → Other s p (a + 8 * j)
+    go true e = done j (ltb-true j i e)
+    go false e = let z : i ≡ j = omega (arith, ltb-false j i e) in ap (λ (x : ℕ). eqb (byte s (a + 8 * x)) p) (sym z) ∙ here
+
+pub others-down : (s : List ℕ) (p a n k : ℕ) → OthersFrom s p a n k → 0 < k → Other s p (a + 8 * (k - 1)) → OthersFrom s p a n (k - 1)
+others-down s p a n k done some here j g h = go (ltb j k) refl
+  where
+    go : (c : Bool) → ltb j k ≡ c → Other s p (a + 8 * j)
+    go true e = let z : k - 1 ≡ j = omega (arith, ltb-true j k e) in ap (λ (x : ℕ). eqb (byte s (a + 8 * x)) p) (sym z) ∙ here
+    go false e = done j (ltb-false j k e) h
+
+-- from the first one on
+pub part-from : (s : List ℕ) (p a r n i b q m : ℕ) → b ≡ a + 8 * i → q ≡ rangesPast s a r i → q ≤ r + 1114095 * i → i + m ≡ n → OthersTo s p a i → PartOf s p a r n b q m
+part-from s p a r n i b q m eb eq near whole done =
+    record { skipped = i; place = eb; ranges = eq; near = near; few = omega arith; others = done; others₁ = λ j g h. absurd (omega arith) }
+
+-- both ends
+pub part-between : (s : List ℕ) (p a r n b q m k : ℕ) → PartOf s p a r n b q m → k ≤ m → OthersFrom s p b m k → PartOf s p a r n b q k
+part-between s p a r n b q m k o h rest =
+    record {
+      skipped = o .skipped;
+      place = o .place;
+      ranges = o .ranges;
+      near = o .near;
+      few = omega (arith, o .few);
+      others = o .others;
+      others₁ = after;
+    }
+  where
+    after : OthersFrom s p a n (o .skipped + k)
+    after j g i = go (ltb j (o .skipped + m)) refl
+      where
+        go : (c : Bool) → ltb j (o .skipped + m) ≡ c → Other s p (a + 8 * j)
+        go true e =
+            let z : b + 8 * (j - o .skipped) ≡ a + 8 * j = omega (arith, o .place) in
+            ap (λ (x : ℕ). eqb (byte s x) p) (sym z) ∙ rest (j - o .skipped) (omega arith) (omega (arith, ltb-true j (o .skipped + m) e))
+        go false e = o .others₁ j (omega (arith, ltb-false j (o .skipped + m) e)) i
+
+-- in a table
+pub bins-few : (s : List ℕ) (l : Layout) → l ≡ layoutOf s → l .«bin_count» ≡ recordCount s 1
+unfolding layoutOf
+bins-few s l el = ap (λ (x : Layout). x .«bin_count») el
+
+pub table-part : (s : List ℕ) (p b q m k : ℕ) (l : Layout) → l ≡ layoutOf s → PartOf s p (l .bins) (l .ranges) (l .«bin_count») b q m → k ≤ m → OthersFrom s p b m k → OwnPart s p b q k
+unfolding layoutOf
+table-part s p b q m k l el o h rest =
+    part-between s p (recordsPlace s 1) (recordsPlace s 2) (recordCount s 1) b q m k (subst (λ (x : Layout). PartOf s p (x .bins) (x .ranges) (x .«bin_count») b q m) el o) h rest
+
+-- ---- a point's own bins
+
+unfoldable pub ownBins : ℕ → List ValueBin → List ValueBin
+ownBins p [] = []
+ownBins p (b ∷ bs) = cond (eqb (b .point) p) (b ∷ ownBins p bs) (ownBins p bs)
+
+pub shift : (s : List ℕ) (p a j : ℕ) → Other s p (a + 8 * suc j) → Other s p (a + 8 + 8 * j)
+shift s p a j h = ap (λ (x : ℕ). eqb (byte s x) p) (let z : a + 8 + 8 * j ≡ a + 8 * suc j = omega arith in z) ∙ h
+
+pub first-other : (s : List ℕ) (p a : ℕ) → Other s p (a + 8 * 0) → Other s p a
+first-other s p a h = ap (λ (x : ℕ). eqb (byte s x) p) (let z : a ≡ a + 8 * 0 = omega arith in z) ∙ h
+
+module _ (s : List ℕ) (p : ℕ) where
+  own-skip : (k m a r : ℕ) → OthersTo s p a k → ownBins p (binsAt s a r (k + m)) ≡ ownBins p (binsAt s (a + 8 * k) (rangesPast s a r k) m)
+  unfolding binsAt ownBins rangesPast
+  own-skip zero m a r h = ap₂ (λ (x y : ℕ). ownBins p (binsAt s x r y)) (let z : a ≡ a + 8 * 0 = omega arith in z) (let z : 0 + m ≡ m = omega arith in z)
+  own-skip (suc k) m a r h =
+      ap (λ (x : ℕ). ownBins p (binsAt s a r x)) (let z : suc k + m ≡ suc (k + m) = omega arith in z)
+      ∙ ap (λ (c : Bool). cond c (binAt s a r ∷ ownBins p (binsAt s (a + 8) (r + 17 * u16 s (a + 6)) (k + m))) (ownBins p (binsAt s (a + 8) (r + 17 * u16 s (a + 6)) (k + m)))) (first-other s p a (h 0 (omega arith)))
+      ∙ own-skip k m (a + 8) (r + 17 * u16 s (a + 6)) (λ j i. shift s p a j (h (suc j) (omega arith)))
+      ∙ ap (λ (x : ℕ). ownBins p (binsAt s x (rangesPast s (a + 8) (r + 17 * u16 s (a + 6)) k) m)) (let z : a + 8 + 8 * k ≡ a + 8 * suc k = omega arith in z)
+
+  own-trim : (m k a r : ℕ) → OthersFrom s p a (m + k) m → ownBins p (binsAt s a r (m + k)) ≡ ownBins p (binsAt s a r m)
+  unfolding binsAt ownBins
+  own-trim zero zero a r h = ap (λ (x : ℕ). ownBins p (binsAt s a r x)) (let z : 0 + 0 ≡ 0 = omega arith in z)
+  own-trim zero (suc k) a r h =
+      ap (λ (x : ℕ). ownBins p (binsAt s a r x)) (let z : 0 + suc k ≡ suc (0 + k) = omega arith in z)
+      ∙ ap (λ (c : Bool). cond c (binAt s a r ∷ ownBins p (binsAt s (a + 8) (r + 17 * u16 s (a + 6)) (0 + k))) (ownBins p (binsAt s (a + 8) (r + 17 * u16 s (a + 6)) (0 + k)))) (first-other s p a (h 0 (omega arith) (omega arith)))
+      ∙ own-trim zero k (a + 8) (r + 17 * u16 s (a + 6)) (λ j g i. shift s p a j (h (suc j) (omega arith) (omega arith)))
+  own-trim (suc m) k a r h =
+      ap (λ (x : ℕ). ownBins p (binsAt s a r x)) (let z : suc m + k ≡ suc (m + k) = omega arith in z)
+      ∙ ap (λ (bs : List ValueBin). cond (eqb (byte s a) p) (binAt s a r ∷ bs) bs) (own-trim m k (a + 8) (r + 17 * u16 s (a + 6)) (λ j g i. shift s p a j (h (suc j) (omega arith) (omega arith))))
+
+  pub own-part : (a r n b q m : ℕ) → PartOf s p a r n b q m → ownBins p (binsAt s b q m) ≡ ownBins p (binsAt s a r n)
+  own-part a r n b q m o =
+      let k = o .skipped in
+      let rest = n - (k + m) in
+      let place : a + 8 * k ≡ b = sym (o .place) in
+      let ranges : rangesPast s a r k ≡ q = sym (o .ranges) in
+      let whole : k + (m + rest) ≡ n = omega (arith, o .few) in
+      sym
+      (ap (λ (x : ℕ). ownBins p (binsAt s a r x)) (sym whole)
+      ∙ own-skip k (m + rest) a r (o .others)
+      ∙ own-trim m rest (a + 8 * k) (rangesPast s a r k)
+      (λ j g i. ap (λ (x : ℕ). eqb (byte s x) p) (let z : a + 8 * k + 8 * j ≡ a + 8 * (k + j) = omega arith in z) ∙ o .others₁ (k + j) (omega arith) (omega arith))
+      ∙ rw (place, ranges))
+
+  -- what they take
+  ranges-own : (f : Kind → Bool) (bs : List ValueBin) → rangesOf f p (ownBins p bs) ≡ rangesOf f p bs
+  unfolding rangesOf ownBins
+  ranges-own f [] = refl
+  ranges-own f (b ∷ bs) = go (eqb (b .point) p) refl (ranges-own f bs)
+    where
+      go : (c : Bool) → eqb (b .point) p ≡ c → rangesOf f p (ownBins p bs) ≡ rangesOf f p bs
+          → rangesOf f p (cond c (b ∷ ownBins p bs) (ownBins p bs)) ≡ cond (c && f (b .kind)) (b .ranges) [] ++ rangesOf f p bs
+      go true e h = rw e (ap (cond (f (b .kind)) (b .ranges) [] ++_) h)
+      go false e h = h
+
+  pub excluded-part : (a r n b q m : ℕ) → PartOf s p a r n b q m → excludedAt s b q m p ≡ excludedAt s a r n p
+  excluded-part a r n b q m o = sym (ranges-own excludes (binsAt s b q m)) ∙ ap (rangesOf excludes p) (own-part a r n b q m o) ∙ ranges-own excludes (binsAt s a r n)
