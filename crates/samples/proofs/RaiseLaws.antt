@@ -162,3 +162,16 @@ pub raised-flags : (k : ℕ) (fs xs w w₁ : List ℕ) → 2 + k ≤ length w �
 raised-flags k fs xs w w₁ h e q r =
     r ∙ ap (λ (l : List ℕ). raiseEach 2 l w) q ∙ raise-flags 2 0 fs w (omega arith)
     ∙ ap₂ (λ (l : List ℕ) (n : ℕ). put 2 (addHits isSet l (take n (drop 2 w))) w) (sym (ap (λ (n : ℕ). take n fs) (sym e) ∙ take-length fs)) e
+
+-- ---- what stands beyond the counts
+
+raise-kept : (at k : ℕ) (xs w : List ℕ) → All (λ x. x < k) xs → drop (at + k) (raiseEach at xs w) ≡ drop (at + k) w
+raise-kept at k [] w h = ap (drop (at + k)) (raise-none at w)
+raise-kept at k (x ∷ xs) w h =
+    ap (drop (at + k)) (raise-first at x xs w)
+    ∙ raise-kept at k xs (set w (at + x) (getD w (at + x) 0 + 1)) (h .1)
+    ∙ drop-set-lt (at + k) w (at + x) (getD w (at + x) 0 + 1) (omega (arith, h .0))
+
+module _ (k p : ℕ) (w : List ℕ) (ok : Countable k p w) (v : ℕ) (xs w₁ : List ℕ) (below : All (λ x. x < k) xs) (e : w₁ ≡ raiseEach 2 xs (set w 1 v)) where
+  pub unknowns-room : allRoom (take p (drop (2 + k) w₁)) ≡ true
+  unknowns-room = ap (λ (l : List ℕ). allRoom (take p l)) (ap (drop (2 + k)) e ∙ raise-kept 2 k xs (set w 1 v) below ∙ drop-set-lt (2 + k) w 1 v (omega arith)) ∙ ok .unknowns
