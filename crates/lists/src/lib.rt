@@ -1,1 +1,94 @@
 // The plan of a table's values and the table's lists, made once a call.
+mod rows;
+
+use crate::rows::put_place_rows;
+use crosses::marked::mark_all;
+use origins::put_origins;
+use pieces::build::put_plan;
+use places::put_of_kind;
+use sampling::Index;
+ghost use mathlib.Core.Path.{_≡_};
+ghost use mathlib.Core.Bool.{true};
+ghost use mathlib.Core.List.{_∷_};
+ghost use Prim.Native.Nat.{_≤_, _+_, _*_};
+ghost use lib.ListN.{length, take, drop};
+ghost use Rattle.model.specs.Format.{accepted, tableOf};
+ghost use Rattle.model.specs.Register.{pointTotal};
+ghost use Rattle.arrays.specs.Put.{put};
+ghost use Rattle.arrays.specs.Flat.{coverCounts, Origins};
+ghost use Rattle.pieces.specs.Plan.{planNeed, ValuesPlan};
+ghost use Rattle.crosses.specs.Marked.{markTotal, Marked};
+ghost use Rattle.places.specs.Places.{ofKind, placesFrom};
+ghost use Rattle.sampling.specs.Index.{Indexed, Labelled};
+ghost use Rattle.lists.specs.Lists.{placesAt, countsAt, listsNeed, Planned};
+ghost use Rattle.lists.specs.Stages.{Listed};
+
+// The first n elements of another array.
+fn copy(out: &mut [u16], from: &[u16], n: usize)
+    requires { ⌜ (n ≤ length (now from)) × (n ≤ length (now out)) ⌝ }
+    ensures { λ _. ⌜ now (out .exit) ≡ put 0 (take n (now (from .entry))) (now (out .entry)) ⌝ }
+{
+    let mut i = 0;
+    while i < n {
+        out[i] = from[i];
+        i += 1;
+    }
+}
+
+// How many of n counters are illegal, and then their places. Answers how many.
+fn put_illegal(out: &mut [u16], kinds: &[u8], n: usize) -> usize
+    requires { ⌜ (n ≤ length (now kinds)) × (1 + length (placesFrom (ofKind 2) 0 (take n (now kinds))) ≤ length (now out)) × (n ≤ 65535) ⌝ }
+    ensures { λ r. ⌜ (r ≡ length (placesFrom (ofKind 2) 0 (take n (now (kinds .entry))))) × (now (out .exit) ≡ put 0 (length (placesFrom (ofKind 2) 0 (take n (now (kinds .entry)))) ∷ placesFrom (ofKind 2) 0 (take n (now (kinds .entry)))) (now (out .entry))) ⌝ }
+{
+    let c = put_of_kind(&mut out[1..], kinds, n, 0, 2);
+    out[0] = c as u16;
+    c
+}
+
+// The lists from the places to the counts. kinds and x are the table's. Answers where the counts stand.
+pub fn put_lists(lists: &mut [u16], t: &[u8], kinds: &[u8], x: Index) -> usize
+    requires { ⌜ (accepted (now t) ≡ true) × Indexed (tableOf (now t)) x × Labelled (tableOf (now t)) (now kinds) × (listsNeed (tableOf (now t)) ≤ length (now lists)) ⌝ }
+    ensures { λ r. ⌜ (r ≡ countsAt (tableOf (now (t .entry)))) × Listed (tableOf (now (t .entry))) (now (lists .exit)) × (take (placesAt (pointTotal (tableOf (now (t .entry))))) (now (lists .exit)) ≡ take (placesAt (pointTotal (tableOf (now (t .entry))))) (now (lists .entry))) × (length (now (lists .exit)) ≡ length (now (lists .entry))) ⌝ }
+{
+    let starts = x.starts;
+    let counts = x.counts;
+    let n = x.points;
+    let at = 64 + 256 * n;
+    put_place_rows(&mut lists[at..], t, kinds, &starts);
+    let from = at + 258 * n;
+    copy(&mut lists[from..], &starts, n + 1);
+    let c = put_illegal(&mut lists[from + 17..], kinds, x.counters);
+    let to = from + 18 + c;
+    copy(&mut lists[to..], &counts, n);
+    to
+}
+
+// The plan of the values, with its bounds, and from 64 on the origins of the cover bins.
+fn put_first(plan: &mut [u64], first: &mut [u16], t: &[u8])
+    requires { ⌜ (accepted (now t) ≡ true) × (planNeed (tableOf (now t)) ≤ length (now plan)) × (placesAt (pointTotal (tableOf (now t))) ≤ length (now first)) ⌝ }
+    ensures { λ _. ⌜ ValuesPlan (tableOf (now (t .entry))) (now (plan .exit)) (now (first .exit)) × Origins (tableOf (now (t .entry))) (drop 64 (now (first .exit))) ⌝ }
+{
+    put_plan(plan, &mut first[..64], t);
+    put_origins(&mut first[64..], t);
+}
+
+// The marks of the products of all crosses.
+fn put_marks(marks: &mut [u16], t: &[u8], counts: &[u16], plan: &[u64], first: &[u16])
+    requires { ⌜ (accepted (now t) ≡ true) × (take (pointTotal (tableOf (now t))) (now counts) ≡ coverCounts (tableOf (now t))) × ValuesPlan (tableOf (now t)) (now plan) (now first) × Origins (tableOf (now t)) (drop 64 (now first)) × (markTotal (tableOf (now t)) ≤ length (now marks)) × (64 ≤ length (now first)) ⌝ }
+    ensures { λ _. ⌜ Marked (tableOf (now (t .entry))) (now (marks .exit)) ⌝ }
+{
+    mark_all(marks, t, counts, &first[64..], plan, first);
+}
+
+// The plan and all lists. kinds and x are the table's.
+pub fn put_planned(plan: &mut [u64], lists: &mut [u16], t: &[u8], kinds: &[u8], x: Index)
+    requires { ⌜ (accepted (now t) ≡ true) × Indexed (tableOf (now t)) x × Labelled (tableOf (now t)) (now kinds) × (planNeed (tableOf (now t)) ≤ length (now plan)) × (listsNeed (tableOf (now t)) ≤ length (now lists)) ⌝ }
+    ensures { λ _. ⌜ Planned (tableOf (now (t .entry))) (now (plan .exit)) (now (lists .exit)) × (length (now (plan .exit)) ≡ length (now (plan .entry))) × (length (now (lists .exit)) ≡ length (now (lists .entry))) ⌝ }
+{
+    let counts = x.counts;
+    let mut first = [0u16; 4160];
+    put_first(plan, &mut first, t);
+    copy(lists, &first, 64 + 256 * x.points);
+    let c = put_lists(lists, t, kinds, x);
+    put_marks(&mut lists[c + 16..], t, &counts, plan, &first);
+}

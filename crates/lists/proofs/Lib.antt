@@ -1,0 +1,4 @@
+pub mod Fronts
+pub mod RowLaws
+pub mod ListLaws
+pub mod PlannedLaws

@@ -1,0 +1,134 @@
+use mathlib.Core.Path.{_≡_, sym, ap, _∙_}
+use mathlib.Core.List.{List}
+use Prim.Native.Nat.{ℕ, _+_, _-_, _*_, _≤_}
+use native.Mathlib.Omega.{arith}
+use borrow.Author.Needs.{needs}
+use borrow.Rule.Slice.PartMut.{same-len-mid}
+use lib.ListN.{length, take}
+use Rattle.model.specs.Format.{tableOf}
+use Rattle.model.proofs.RawExact.{few-points}
+use Rattle.arrays.specs.Put.{put}
+use Rattle.points.proofs.AllLaws.{few-here}
+use Rattle.lists.specs.Lists.{placesAt}
+use Rattle.lists.proofs.Fronts.{lent-length}
+use Rattle.lists.proofs.PlannedLaws.{planned}
+use Rattle.lists.proofs.put_planned.Statement.{statement}
+use Rattle.lists.proofs.put_planned.Tie as tie
+
+slice-aggregate-put-first : tie.Need-slice-aggregate-put-first
+slice-aggregate-put-first c = search needs
+
+put-first-requires : tie.Need-put-first-requires
+put-first-requires c κs =
+    let a = c .before .before .before .before .before .before .before .args in
+    let p = c .before .before .before .before .before .before .before .pre in
+    let s = a .t .now in
+    let t = tableOf s in
+    let few = few-points s (p .0) in
+    (p .0, p .3, omega (arith, few))
+
+slice-aggregate-copy : tie.Need-slice-aggregate-copy
+slice-aggregate-copy c = search needs
+
+mul-copy : tie.Need-mul-copy
+mul-copy c = search needs
+
+add-copy : tie.Need-add-copy
+add-copy c = search needs
+
+copy-requires : tie.Need-copy-requires
+copy-requires c κs =
+    let a = c .before .before .before .before .before .before .before .before .before .before .before .before .before .before .args in
+    let p = c .before .before .before .before .before .before .before .before .before .before .before .before .before .before .pre in
+    let s = a .t .now in
+    let t = tableOf s in
+    let few = few-points s (p .0) in
+    let one = c .before .before .before .before .before .before .put-first in
+    (omega (arith, few, p .1 .points, one .kept .1), omega (arith, few, p .1 .points, p .4))
+
+put-lists-requires : tie.Need-put-lists-requires
+put-lists-requires c κs = search needs
+
+add-put-marks : tie.Need-add-put-marks
+add-put-marks c = search needs
+
+mul-put-marks : tie.Need-mul-put-marks
+mul-put-marks c = search needs
+
+sub-put-marks : tie.Need-sub-put-marks
+sub-put-marks c = search needs
+
+part-put-marks-start : tie.Need-part-put-marks-start
+part-put-marks-start c = search needs
+
+part-put-marks-end : tie.Need-part-put-marks-end
+part-put-marks-end c = search needs
+
+slice-aggregate-put-marks : tie.Need-slice-aggregate-put-marks
+slice-aggregate-put-marks c = search needs
+
+slice-aggregate-put-marks-2 : tie.Need-slice-aggregate-put-marks-2
+slice-aggregate-put-marks-2 c = search needs
+
+put-marks-requires : tie.Need-put-marks-requires
+put-marks-requires c κs =
+    let a = c .before .before .before .before .before .before .before .before .before .before .before .before .before .before .before .before .before .before .before .before .before .before .before .before .before .args in
+    let p = c .before .before .before .before .before .before .before .before .before .before .before .before .before .before .before .before .before .before .before .before .before .before .before .before .before .pre in
+    let s = a .t .now in
+    let t = tableOf s in
+    let few = few-points s (p .0) in
+    let one = c .before .before .before .before .before .before .before .before .before .before .before .before .before .before .before .before .before .put-first in
+    let two = c .before .before .before .before .before .before .before .before .before .before .copy in
+    let three = c .before .before .before .before .before .before .put-lists in
+    let long : length (three .last .0) ≡ length (a .lists .now) = three .kept .0 ∙ two .kept .0 in
+    let fit : three .result + 16 ≤ length (three .last .0) = omega (arith, three .ensures .0, long, p .4) in
+    (p .0, p .1 .counts, one .ensures .0, one .ensures .1, omega (arith, lent-length (three .result + 16) (three .last .0) fit, three .ensures .0, long, p .4), omega (arith, one .kept .1))
+
+same-length : tie.Need-same-length
+same-length c = search needs
+
+same-length-2 : tie.Need-same-length-2
+same-length-2 c = search needs
+
+returns : tie.Need-returns
+returns c =
+    let a = c .before .before .before .before .before .before .before .before .before .before .before .before .before .before .before .before .before .before .before .before .before .before .before .before .before .before .before .before .args in
+    let p = c .before .before .before .before .before .before .before .before .before .before .before .before .before .before .before .before .before .before .before .before .before .before .before .before .before .before .before .before .pre in
+    let s = a .t .now in
+    let t = tableOf s in
+    let few = few-points s (p .0) in
+    let one = c .before .before .before .before .before .before .before .before .before .before .before .before .before .before .before .before .before .before .before .before .put-first in
+    let two = c .before .before .before .before .before .before .before .before .before .before .before .before .before .copy in
+    let three = c .before .before .before .before .before .before .before .before .before .put-lists in
+    let four = c .before .before .put-marks in
+    let at = three .result + 16 in
+    let long : length (three .last .0) ≡ length (a .lists .now) = three .kept .0 ∙ two .kept .0 in
+    let last = same-len-mid at (length (three .last .0) - at) (three .last .0) (four .last .0) (four .kept .0) in
+    let e = two .ensures ∙ ap (λ (n : ℕ). put 0 (take (placesAt n) (one .last .1 .0)) (a .lists .now)) (p .1 .points) in (
+      planned t (few-here s (p .0)) (one .last .0) (one .last .1 .0) (a .lists .now) (two .last .0) (three .last .0) (four .last .0) few (omega (arith, long, p .4)) (omega (arith, few, one .kept .1)) (omega (arith, p .4)) (one .ensures .0) (one .ensures .1) e (three .ensures .2) (three .ensures .1) (four .ensures) at (omega (arith, three .ensures .0)) last,
+      one .kept .0,
+      last ∙ long,
+    )
+
+pub put-planned-spec : {M : Type 1} → statement M
+put-planned-spec =
+    tie.close
+    (tie.spec
+    slice-aggregate-put-first
+    put-first-requires
+    slice-aggregate-copy
+    mul-copy
+    add-copy
+    copy-requires
+    put-lists-requires
+    add-put-marks
+    mul-put-marks
+    sub-put-marks
+    part-put-marks-start
+    part-put-marks-end
+    slice-aggregate-put-marks
+    slice-aggregate-put-marks-2
+    put-marks-requires
+    same-length
+    same-length-2
+    returns)
