@@ -6,8 +6,8 @@ use mathlib.Core.List.{List, _++_}
 use Prim.Native.Nat.{ℕ, _+_, _-_, _*_, _≤_, _<_}
 use native.Mathlib.Omega.{arith}
 use borrow.Rule.Slice.PartMut.{putMid}
-use lib.ListN.{length, getD, take, drop, length-append, List·getD-append}
-use lib.Seq.{getD-drop, length-take-le}
+use lib.ListN.{length, getD, take, drop, set, length-append, length-set, List·getD-append}
+use lib.Seq.{getD-drop, length-take-le, drop-set-lt, getD-set-other}
 use Rattle.model.specs.Table.{Table}
 use Rattle.model.specs.Counters.{pointCounters}
 use Rattle.model.specs.Register.{pointTotal}
@@ -17,7 +17,8 @@ use Rattle.arrays.specs.Flat.{covers, Origins}
 use Rattle.arrays.proofs.PutLaws.{front-put}
 use Rattle.pieces.specs.Plan.{ValuesPlan}
 use Rattle.crosses.specs.Marked.{Marked}
-use Rattle.lists.specs.Lists.{placesAt, marksAt, listsNeed, Planned}
+use Rattle.places.specs.Places.{PlaceRows, illegalPlaces}
+use Rattle.lists.specs.Lists.{placesAt, startsAt, illegalsAt, countsAt, marksAt, listsNeed, Planned}
 use Rattle.lists.specs.Stages.{Listed}
 use Rattle.lists.proofs.Fronts.{front-less, front-get, back-front, back-rest}
 use Rattle.lists.proofs.ListLaws.{listed-kept}
@@ -76,3 +77,24 @@ module _ (t : Table) (w b d z : List ℕ) (h : pointTotal t ≤ 16) (e : length 
 
   pub first-origins : Origins t z → Origins t (drop 64 (putMid 64 (length (b ++ d) - 64) (b ++ d) z))
   first-origins o = subst (Origins t) (sym (back-rest 64 (b ++ d) at z)) o
+
+-- ---- an element that no list has
+
+module _ (t : Table) (w l : List ℕ) (v : ℕ) (few : pointTotal t ≤ 16) (ok : Planned t w l) where
+  beyond : (n : ℕ) → 64 ≤ n → drop n (set l 63 v) ≡ drop n l
+  beyond n h = drop-set-lt n l 63 v (omega arith)
+
+  pub planned-set : Planned t w (set l 63 v)
+  planned-set =
+      let n = pointTotal t in
+      record {
+        values = values-kept t w l (set l 63 v) few (λ i k. getD-set-other l 63 i v 0 (λ (e : i ≡ 63). omega arith)) (ok .values);
+        origins = subst (Origins t) (sym (beyond 64 (omega arith))) (ok .origins);
+        places = subst (PlaceRows t) (sym (beyond (placesAt n) (omega arith))) (ok .places);
+        starts = ap (take (n + 1)) (beyond (startsAt n) (omega arith)) ∙ ok .starts;
+        illegals = getD-set-other l 63 (illegalsAt n) v 0 (λ (e : illegalsAt n ≡ 63). omega arith) ∙ ok .illegals;
+        illegal = ap (take (length (illegalPlaces t))) (beyond (illegalsAt n + 1) (omega arith)) ∙ ok .illegal;
+        counts = ap (take n) (beyond (countsAt t) (omega arith)) ∙ ok .counts;
+        marks = subst (Marked t) (sym (beyond (marksAt t) (omega arith))) (ok .marks);
+        room = simp length-set (ok .room);
+      }

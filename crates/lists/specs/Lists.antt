@@ -5,7 +5,7 @@ use mathlib.Core.Path.{_≡_}
 use mathlib.Core.List.{List}
 use lib.ListN.{length, getD, take, drop}
 use Rattle.model.specs.Table.{Table}
-use Rattle.model.specs.Register.{pointTotal}
+use Rattle.model.specs.Register.{pointTotal, counterTotal}
 use Rattle.arrays.specs.Flat.{pointStarts, coverCounts, Origins}
 use Rattle.pieces.specs.Plan.{ValuesPlan}
 use Rattle.crosses.specs.Marked.{markTotal, Marked}
@@ -42,3 +42,8 @@ pub record Planned (t : Table) (plan lists : List ℕ) : Type 0 where
   pub counts : take (pointTotal t) (drop (countsAt t) lists) ≡ coverCounts t
   pub marks : Marked t (drop (marksAt t) lists)
   pub room : listsNeed t ≤ length lists
+
+-- with the number of the table's counters at element 63
+pub record Ready (t : Table) (plan lists : List ℕ) : Type 0 where
+  pub planned : Planned t plan lists
+  pub counters : getD lists 63 0 ≡ counterTotal t

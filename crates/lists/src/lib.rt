@@ -15,12 +15,11 @@ ghost use lib.ListN.{length, take, drop};
 ghost use Rattle.model.specs.Format.{accepted, tableOf};
 ghost use Rattle.model.specs.Register.{pointTotal};
 ghost use Rattle.arrays.specs.Put.{put};
-ghost use Rattle.arrays.specs.Flat.{coverCounts, Origins};
+ghost use Rattle.arrays.specs.Flat.{Origins};
 ghost use Rattle.pieces.specs.Plan.{planNeed, ValuesPlan};
-ghost use Rattle.crosses.specs.Marked.{markTotal, Marked};
 ghost use Rattle.places.specs.Places.{ofKind, placesFrom};
 ghost use Rattle.sampling.specs.Index.{Indexed, Labelled};
-ghost use Rattle.lists.specs.Lists.{placesAt, countsAt, listsNeed, Planned};
+ghost use Rattle.lists.specs.Lists.{placesAt, countsAt, listsNeed, Planned, Ready};
 ghost use Rattle.lists.specs.Stages.{Listed};
 
 // The first n elements of another array.
@@ -72,16 +71,8 @@ fn put_first(plan: &mut [u64], first: &mut [u16], t: &[u8])
     put_origins(&mut first[64..], t);
 }
 
-// The marks of the products of all crosses.
-fn put_marks(marks: &mut [u16], t: &[u8], counts: &[u16], plan: &[u64], first: &[u16])
-    requires { ⌜ (accepted (now t) ≡ true) × (take (pointTotal (tableOf (now t))) (now counts) ≡ coverCounts (tableOf (now t))) × ValuesPlan (tableOf (now t)) (now plan) (now first) × Origins (tableOf (now t)) (drop 64 (now first)) × (markTotal (tableOf (now t)) ≤ length (now marks)) × (64 ≤ length (now first)) ⌝ }
-    ensures { λ _. ⌜ Marked (tableOf (now (t .entry))) (now (marks .exit)) ⌝ }
-{
-    mark_all(marks, t, counts, &first[64..], plan, first);
-}
-
 // The plan and all lists. kinds and x are the table's.
-pub fn put_planned(plan: &mut [u64], lists: &mut [u16], t: &[u8], kinds: &[u8], x: Index)
+fn put_planned(plan: &mut [u64], lists: &mut [u16], t: &[u8], kinds: &[u8], x: Index)
     requires { ⌜ (accepted (now t) ≡ true) × Indexed (tableOf (now t)) x × Labelled (tableOf (now t)) (now kinds) × (planNeed (tableOf (now t)) ≤ length (now plan)) × (listsNeed (tableOf (now t)) ≤ length (now lists)) ⌝ }
     ensures { λ _. ⌜ Planned (tableOf (now (t .entry))) (now (plan .exit)) (now (lists .exit)) × (length (now (plan .exit)) ≡ length (now (plan .entry))) × (length (now (lists .exit)) ≡ length (now (lists .entry))) ⌝ }
 {
@@ -90,5 +81,14 @@ pub fn put_planned(plan: &mut [u64], lists: &mut [u16], t: &[u8], kinds: &[u8], 
     put_first(plan, &mut first, t);
     copy(lists, &first, 64 + 256 * x.points);
     let c = put_lists(lists, t, kinds, x);
-    put_marks(&mut lists[c + 16..], t, &counts, plan, &first);
+    mark_all(&mut lists[c + 16..], t, &counts, plan, &first);
+}
+
+// The same, and the number of counters.
+pub fn put_ready(plan: &mut [u64], lists: &mut [u16], t: &[u8], kinds: &[u8], x: Index)
+    requires { ⌜ (accepted (now t) ≡ true) × Indexed (tableOf (now t)) x × Labelled (tableOf (now t)) (now kinds) × (planNeed (tableOf (now t)) ≤ length (now plan)) × (listsNeed (tableOf (now t)) ≤ length (now lists)) ⌝ }
+    ensures { λ _. ⌜ Ready (tableOf (now (t .entry))) (now (plan .exit)) (now (lists .exit)) × (length (now (plan .exit)) ≡ length (now (plan .entry))) × (length (now (lists .exit)) ≡ length (now (lists .entry))) ⌝ }
+{
+    put_planned(plan, lists, t, kinds, x);
+    lists[63] = x.counters as u16;
 }

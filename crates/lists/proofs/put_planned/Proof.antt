@@ -49,29 +49,29 @@ copy-requires c κs =
 put-lists-requires : tie.Need-put-lists-requires
 put-lists-requires c κs = search needs
 
-add-put-marks : tie.Need-add-put-marks
-add-put-marks c = search needs
+add-mark-all : tie.Need-add-mark-all
+add-mark-all c = search needs
 
-mul-put-marks : tie.Need-mul-put-marks
-mul-put-marks c = search needs
+mul-mark-all : tie.Need-mul-mark-all
+mul-mark-all c = search needs
 
-sub-put-marks : tie.Need-sub-put-marks
-sub-put-marks c = search needs
+sub-mark-all : tie.Need-sub-mark-all
+sub-mark-all c = search needs
 
-part-put-marks-start : tie.Need-part-put-marks-start
-part-put-marks-start c = search needs
+part-mark-all-start : tie.Need-part-mark-all-start
+part-mark-all-start c = search needs
 
-part-put-marks-end : tie.Need-part-put-marks-end
-part-put-marks-end c = search needs
+part-mark-all-end : tie.Need-part-mark-all-end
+part-mark-all-end c = search needs
 
-slice-aggregate-put-marks : tie.Need-slice-aggregate-put-marks
-slice-aggregate-put-marks c = search needs
+slice-aggregate-mark-all : tie.Need-slice-aggregate-mark-all
+slice-aggregate-mark-all c = search needs
 
-slice-aggregate-put-marks-2 : tie.Need-slice-aggregate-put-marks-2
-slice-aggregate-put-marks-2 c = search needs
+slice-aggregate-mark-all-2 : tie.Need-slice-aggregate-mark-all-2
+slice-aggregate-mark-all-2 c = search needs
 
-put-marks-requires : tie.Need-put-marks-requires
-put-marks-requires c κs =
+mark-all-requires : tie.Need-mark-all-requires
+mark-all-requires c κs =
     let a = c .before .before .before .before .before .before .before .before .before .before .before .before .before .before .before .before .before .before .before .before .before .before .before .before .before .args in
     let p = c .before .before .before .before .before .before .before .before .before .before .before .before .before .before .before .before .before .before .before .before .before .before .before .before .before .pre in
     let s = a .t .now in
@@ -82,7 +82,7 @@ put-marks-requires c κs =
     let three = c .before .before .before .before .before .before .put-lists in
     let long : length (three .last .0) ≡ length (a .lists .now) = three .kept .0 ∙ two .kept .0 in
     let fit : three .result + 16 ≤ length (three .last .0) = omega (arith, three .ensures .0, long, p .4) in
-    (p .0, p .1 .counts, one .ensures .0, one .ensures .1, omega (arith, lent-length (three .result + 16) (three .last .0) fit, three .ensures .0, long, p .4), omega (arith, one .kept .1))
+    (p .0, p .1 .counts, one .ensures .1, one .ensures .0, omega (arith, lent-length (three .result + 16) (three .last .0) fit, three .ensures .0, long, p .4))
 
 same-length : tie.Need-same-length
 same-length c = search needs
@@ -100,7 +100,7 @@ returns c =
     let one = c .before .before .before .before .before .before .before .before .before .before .before .before .before .before .before .before .before .before .before .before .put-first in
     let two = c .before .before .before .before .before .before .before .before .before .before .before .before .before .copy in
     let three = c .before .before .before .before .before .before .before .before .before .put-lists in
-    let four = c .before .before .put-marks in
+    let four = c .before .before .mark-all in
     let at = three .result + 16 in
     let long : length (three .last .0) ≡ length (a .lists .now) = three .kept .0 ∙ two .kept .0 in
     let last = same-len-mid at (length (three .last .0) - at) (three .last .0) (four .last .0) (four .kept .0) in
@@ -121,14 +121,14 @@ put-planned-spec =
     add-copy
     copy-requires
     put-lists-requires
-    add-put-marks
-    mul-put-marks
-    sub-put-marks
-    part-put-marks-start
-    part-put-marks-end
-    slice-aggregate-put-marks
-    slice-aggregate-put-marks-2
-    put-marks-requires
+    add-mark-all
+    mul-mark-all
+    sub-mark-all
+    part-mark-all-start
+    part-mark-all-end
+    slice-aggregate-mark-all
+    slice-aggregate-mark-all-2
+    mark-all-requires
     same-length
     same-length-2
     returns)
