@@ -1,11 +1,11 @@
 -- A list whose front is kept where something is written after it.
 -- Assumes nothing.
-use mathlib.Core.Path.{_≡_, refl, sym, ap, ap₂, _∙_}
+use mathlib.Core.Path.{_≡_, sym, ap, ap₂, _∙_}
 use mathlib.Core.List.{List, [], _∷_, _++_, append-assoc, append-nil}
 use Prim.Native.Nat.{ℕ, zero, suc, _+_, _-_, _≤_, _<_}
 use native.Mathlib.Omega.{arith}
-use lib.ListN.{length, getD, take, drop, set, length-append, length-take, length-drop, take-append-drop, drop-of-length-le}
-use lib.Seq.{drop-cons, take-all, take-nil, take-take, take-at, drop-at, drop-drop, take-append-le, length-take-le, getD-take, set-append-left, take-set-lt, drop-set-lt}
+use lib.ListN.{length, getD, take, drop, set, length-append, length-drop, drop-of-length-le}
+use lib.Seq.{drop-cons, take-all, take-nil, take-take, take-at, drop-at, drop-drop, length-take-le, getD-take, set-append-left, take-set-lt, drop-set-lt}
 use borrow.Rule.Slice.PartMut.{putMid}
 use Rattle.arrays.specs.Put.{put}
 use Rattle.arrays.proofs.PutLaws.{put-nil, put-zero, put-cons}

@@ -3,7 +3,7 @@
 use mathlib.Core.Path.{_≡_, refl, sym, ap, ap₂, _∙_, subst}
 use mathlib.Core.Bool.{true}
 use mathlib.Core.List.{List, _∷_}
-use Prim.Native.Nat.{ℕ, suc, _+_, _-_, _*_, _≤_, _<_}
+use Prim.Native.Nat.{ℕ, _+_, _-_, _≤_, _<_}
 use native.Mathlib.Nat.{add-zero}
 use native.Mathlib.Omega.{arith}
 use lib.ListN.{length, getD, take, drop, set, length-take, length-set}
@@ -16,7 +16,6 @@ use Rattle.arrays.specs.Put.{put}
 use Rattle.arrays.specs.Flat.{kindOf, kindsOf, pointStarts, coverCounts}
 use Rattle.arrays.proofs.PutLaws.{part-put, put-in, put-cons, length-put}
 use Rattle.arrays.proofs.FlatLaws.{counts-length, kinds-length}
-use Rattle.crosses.specs.Marked.{markTotal}
 use Rattle.sampling.specs.declared.Index.{Index}
 use Rattle.sampling.specs.Index.{Indexed, Labelled}
 use Rattle.sampling.proofs.Joins.{length-starts, largest-room}
@@ -37,6 +36,9 @@ module _ (t : Table) (kinds : List ℕ) (l : Labelled t kinds) where
   pub illegal-kinds : (n : ℕ) → n ≡ counterTotal t → placesFrom (ofKind 2) 0 (take n kinds) ≡ illegalPlaces t
   unfolding Labelled kindsOf illegalPlaces
   illegal-kinds n e = ap (λ (m : ℕ). placesFrom (ofKind 2) 0 (take m kinds)) e ∙ ap (placesFrom (ofKind 2) 0) l ∙ places-map (ofKind 2) kindOf 0 (counters t)
+
+  pub illegal-count : (n : ℕ) → n ≡ counterTotal t → (r : ℕ) → r ≡ length (placesFrom (ofKind 2) 0 (take n kinds)) → r ≡ length (illegalPlaces t)
+  illegal-count n e r er = er ∙ ap length (illegal-kinds n e)
 
 -- ---- list after list
 

@@ -3,10 +3,10 @@
 use mathlib.Core.Path.{_≡_, refl, sym, ap, ap₂, _∙_, subst}
 use mathlib.Core.Bool.{Bool, true, false, _||_, cond}
 use mathlib.Core.List.{List, [], _∷_, _++_, map, append-assoc}
-use Prim.Native.Nat.{ℕ, zero, suc, _+_, _-_, _*_, _≤_, _<_}
+use Prim.Native.Nat.{ℕ, suc, _+_, _-_, _*_, _≤_, _<_}
 use native.Mathlib.Omega.{arith}
 use lib.Dec.{eqb, ltb}
-use lib.ListN.{length, getD, take, drop, set, length-append, length-map, length-take, length-drop, List·getD-append}
+use lib.ListN.{length, getD, take, drop, set, length-append, length-map, length-drop, List·getD-append}
 use lib.Seq.{ext-getD, getD-take, getD-drop, take-at, drop-at, drop-drop, take-take, length-take-le}
 use borrow.Author.Tests.{eqb-true, ltb-true, ltb-false}
 use Rattle.model.proofs.Booleans.{false-true}
@@ -16,15 +16,15 @@ use Rattle.model.specs.Format.{accepted, tableOf}
 use Rattle.model.specs.Register.{pointTotal}
 use Rattle.model.proofs.RawExact.{few-points}
 use Rattle.arrays.specs.Put.{put}
-use Rattle.arrays.specs.Flat.{kindOf, kindsOf, allPointCounters, pointStart, pointStarts, covers}
-use Rattle.arrays.proofs.PutLaws.{put-put, length-put}
+use Rattle.arrays.specs.Flat.{kindOf, kindsOf, pointStart, pointStarts, covers}
+use Rattle.arrays.proofs.PutLaws.{put-put}
 use Rattle.points.specs.Gates.{Kinded}
 use Rattle.points.proofs.AllLaws.{few-here}
 use Rattle.points.proofs.KindExact.{start-low}
 use Rattle.points.proofs.ItemLaws.{start-read, end-read}
 use Rattle.points.proofs.GateLaws.{list-point, start-within, kinds-long}
-use Rattle.places.specs.Places.{ofKind, placesFrom, isCoverCounter, isPlain, coverPlaces, plainPlaces, PlaceRow, PlaceRows}
-use Rattle.places.proofs.PlaceLaws.{places-map, places-few}
+use Rattle.places.specs.Places.{ofKind, placesFrom, isCoverCounter, coverPlaces, plainPlaces, PlaceRow, PlaceRows}
+use Rattle.places.proofs.PlaceLaws.{places-map}
 use Rattle.lists.specs.Stages.{rowOf}
 use Rattle.lists.proofs.Fronts.{front-get, front-part, put-front, put-rest, set-put}
 

@@ -1,9 +1,9 @@
-use mathlib.Core.Path.{_≡_, ap, _∙_}
+use mathlib.Core.Path.{ap, _∙_}
 use mathlib.Core.List.{List, _∷_}
-use Prim.Native.Nat.{ℕ, _≤_}
+use Prim.Native.Nat.{ℕ}
 use native.Mathlib.Omega.{arith}
 use borrow.Author.Needs.{needs}
-use lib.ListN.{length, take, set, length-take}
+use lib.ListN.{take, set, length-take}
 use Rattle.arrays.specs.Put.{put}
 use Rattle.places.specs.Places.{ofKind, placesFrom}
 use Rattle.places.proofs.PlaceLaws.{places-few}

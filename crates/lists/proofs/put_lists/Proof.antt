@@ -1,19 +1,15 @@
-use mathlib.Core.Path.{_≡_, sym, ap, ap₂, _∙_}
-use mathlib.Core.List.{List, _∷_}
+use mathlib.Core.Path.{_≡_, sym, ap, _∙_}
 use Prim.Native.Nat.{ℕ, _+_, _-_, _*_, _≤_}
 use native.Mathlib.Omega.{arith}
 use borrow.Author.Needs.{needs}
 use borrow.Rule.Slice.PartMut.{putMid, same-len-mid}
-use lib.ListN.{length, take, drop}
+use lib.ListN.{length, take}
 use Rattle.model.specs.Format.{tableOf}
-use Rattle.model.specs.Register.{pointTotal}
 use Rattle.points.proofs.AllLaws.{few-here}
-use Rattle.arrays.specs.Put.{put}
-use Rattle.places.specs.Places.{ofKind, placesFrom, PlaceRows, illegalPlaces}
 use Rattle.sampling.proofs.Joins.{labelled-points}
-use Rattle.lists.specs.Lists.{placesAt, startsAt, illegalsAt, countsAt}
-use Rattle.lists.proofs.Fronts.{lent-length, back-front, back-rest, back-put, front-less}
-use Rattle.lists.proofs.ListLaws.{Sizes, sizes, illegal-kinds, lists-made}
+use Rattle.lists.specs.Lists.{placesAt}
+use Rattle.lists.proofs.Fronts.{back-front, back-rest, back-put}
+use Rattle.lists.proofs.ListLaws.{sizes, illegal-kinds, illegal-count, lists-made}
 use Rattle.lists.proofs.put_lists.Statement.{statement}
 use Rattle.lists.proofs.put_lists.Tie as tie
 
@@ -46,8 +42,7 @@ put-place-rows-requires c κs =
     let s = a .t .now in
     let t = tableOf s in
     let k = sizes s (p .0) (a .kinds .now) (p .2) in
-    let at = 64 + 256 * a .x .points in
-    ((p .0, omega (arith, k .points, k .illegals, x .points, p .3, lent-length at (a .lists .now) (omega (arith, k .points, k .illegals, x .points, p .3))), omega (arith, x .starts-sized)), (labelled-points t (a .kinds .now) (p .2), x .starts))
+    ((p .0, omega (arith, k .points, x .points, p .3), omega (arith, x .starts-sized)), (labelled-points t (a .kinds .now) (p .2), x .starts))
 
 mul-from : tie.Need-mul-from
 mul-from c = search needs
@@ -79,14 +74,8 @@ copy-requires c κs =
     let p = c .before .before .before .before .before .before .before .before .before .before .before .before .pre in
     let x = p .1 in
     let s = a .t .now in
-    let t = tableOf s in
     let k = sizes s (p .0) (a .kinds .now) (p .2) in
-    let at = 64 + 256 * a .x .points in
-    let rows = c .before .before .before .before .put-place-rows in
-    let l₁ = putMid at (length (a .lists .now) - at) (a .lists .now) (rows .last .0) in
-    let n₁ : length l₁ ≡ length (a .lists .now) = same-len-mid at (length (a .lists .now) - at) (a .lists .now) (rows .last .0) (rows .kept .0) in
-    let from = at + 258 * a .x .points in
-    (omega (arith, k .points, k .illegals, x .points, p .3, x .starts-sized), omega (arith, k .points, k .illegals, x .points, p .3, n₁, lent-length from l₁ (omega (arith, k .points, k .illegals, x .points, p .3, n₁))))
+    (omega (arith, k .points, x .points, x .starts-sized), omega (arith, k .points, x .points, p .3))
 
 add-put-illegal : tie.Need-add-put-illegal
 add-put-illegal c = search needs
@@ -111,16 +100,8 @@ put-illegal-requires c κs =
     let s = a .t .now in
     let t = tableOf s in
     let k = sizes s (p .0) (a .kinds .now) (p .2) in
-    let at = 64 + 256 * a .x .points in
-    let rows = c .before .before .before .before .before .before .before .before .put-place-rows in
-    let l₁ = putMid at (length (a .lists .now) - at) (a .lists .now) (rows .last .0) in
-    let n₁ : length l₁ ≡ length (a .lists .now) = same-len-mid at (length (a .lists .now) - at) (a .lists .now) (rows .last .0) (rows .kept .0) in
-    let from = at + 258 * a .x .points in
-    let first = c .before .before .before .copy in
-    let l₂ = putMid from (length l₁ - from) l₁ (first .last .0) in
-    let n₂ : length l₂ ≡ length l₁ = same-len-mid from (length l₁ - from) l₁ (first .last .0) (first .kept .0) in
     let i = illegal-kinds t (a .kinds .now) (p .2) (a .x .counters) (x .counters) in
-    (omega (arith, k .room, x .counters), omega (arith, k .points, k .illegals, x .points, p .3, ap length i, n₁, n₂, lent-length (from + 17) l₂ (omega (arith, k .points, k .illegals, x .points, p .3, n₁, n₂))), omega (arith, k .counters, x .counters))
+    (omega (arith, k .room, x .counters), omega (arith, k .points, x .points, p .3, ap length i), omega (arith, k .counters, x .counters))
 
 add-to : tie.Need-add-to
 add-to c = search needs
@@ -129,97 +110,41 @@ add-to-2 : tie.Need-add-to-2
 add-to-2 c =
     let a = c .before .before .before .before .before .before .before .before .before .before .before .before .before .before .before .before .before .before .before .args in
     let p = c .before .before .before .before .before .before .before .before .before .before .before .before .before .before .before .before .before .before .before .pre in
-    let x = p .1 in
-    let s = a .t .now in
-    let t = tableOf s in
-    let k = sizes s (p .0) (a .kinds .now) (p .2) in
-    let at = 64 + 256 * a .x .points in
-    let rows = c .before .before .before .before .before .before .before .before .before .before .before .put-place-rows in
-    let l₁ = putMid at (length (a .lists .now) - at) (a .lists .now) (rows .last .0) in
-    let n₁ : length l₁ ≡ length (a .lists .now) = same-len-mid at (length (a .lists .now) - at) (a .lists .now) (rows .last .0) (rows .kept .0) in
-    let from = at + 258 * a .x .points in
-    let first = c .before .before .before .before .before .before .copy in
-    let l₂ = putMid from (length l₁ - from) l₁ (first .last .0) in
-    let n₂ : length l₂ ≡ length l₁ = same-len-mid from (length l₁ - from) l₁ (first .last .0) (first .kept .0) in
+    let k = sizes (a .t .now) (p .0) (a .kinds .now) (p .2) in
     let bad = c .before .before .put-illegal in
-    let l₃ = putMid (from + 17) (length l₂ - (from + 17)) l₂ (bad .last .0) in
-    let n₃ : length l₃ ≡ length l₂ = same-len-mid (from + 17) (length l₂ - (from + 17)) l₂ (bad .last .0) (bad .kept .0) in
-    let i = illegal-kinds t (a .kinds .now) (p .2) (a .x .counters) (x .counters) in
-    let many : bad .result ≡ length (illegalPlaces t) = bad .ensures .0 ∙ ap length i in
-    let to = from + 18 + bad .result in
-    omega (arith, k .points, k .illegals, x .points, p .3, n₁, n₂, n₃, many)
+    let x = p .1 in
+    let many = illegal-count (tableOf (a .t .now)) (a .kinds .now) (p .2) (a .x .counters) (x .counters) (bad .result) (bad .ensures .0) in
+    omega (arith, k .points, k .illegals, x .points, p .3, many)
 
 mul-copy-2 : tie.Need-mul-copy-2
 mul-copy-2 c =
     let a = c .before .before .before .before .before .before .before .before .before .before .before .before .before .before .before .before .before .before .before .args in
     let p = c .before .before .before .before .before .before .before .before .before .before .before .before .before .before .before .before .before .before .before .pre in
-    let x = p .1 in
-    let s = a .t .now in
-    let t = tableOf s in
-    let k = sizes s (p .0) (a .kinds .now) (p .2) in
-    let at = 64 + 256 * a .x .points in
-    let rows = c .before .before .before .before .before .before .before .before .before .before .before .put-place-rows in
-    let l₁ = putMid at (length (a .lists .now) - at) (a .lists .now) (rows .last .0) in
-    let n₁ : length l₁ ≡ length (a .lists .now) = same-len-mid at (length (a .lists .now) - at) (a .lists .now) (rows .last .0) (rows .kept .0) in
-    let from = at + 258 * a .x .points in
-    let first = c .before .before .before .before .before .before .copy in
-    let l₂ = putMid from (length l₁ - from) l₁ (first .last .0) in
-    let n₂ : length l₂ ≡ length l₁ = same-len-mid from (length l₁ - from) l₁ (first .last .0) (first .kept .0) in
+    let k = sizes (a .t .now) (p .0) (a .kinds .now) (p .2) in
     let bad = c .before .before .put-illegal in
-    let l₃ = putMid (from + 17) (length l₂ - (from + 17)) l₂ (bad .last .0) in
-    let n₃ : length l₃ ≡ length l₂ = same-len-mid (from + 17) (length l₂ - (from + 17)) l₂ (bad .last .0) (bad .kept .0) in
-    let i = illegal-kinds t (a .kinds .now) (p .2) (a .x .counters) (x .counters) in
-    let many : bad .result ≡ length (illegalPlaces t) = bad .ensures .0 ∙ ap length i in
-    let to = from + 18 + bad .result in
-    omega (arith, k .points, k .illegals, x .points, p .3, n₁, n₂, n₃, many)
+    let x = p .1 in
+    let many = illegal-count (tableOf (a .t .now)) (a .kinds .now) (p .2) (a .x .counters) (x .counters) (bad .result) (bad .ensures .0) in
+    omega (arith, k .points, k .illegals, x .points, p .3, many)
 
 sub-copy-2 : tie.Need-sub-copy-2
 sub-copy-2 c =
     let a = c .before .before .before .before .before .before .before .before .before .before .before .before .before .before .before .before .before .before .before .args in
     let p = c .before .before .before .before .before .before .before .before .before .before .before .before .before .before .before .before .before .before .before .pre in
-    let x = p .1 in
-    let s = a .t .now in
-    let t = tableOf s in
-    let k = sizes s (p .0) (a .kinds .now) (p .2) in
-    let at = 64 + 256 * a .x .points in
-    let rows = c .before .before .before .before .before .before .before .before .before .before .before .put-place-rows in
-    let l₁ = putMid at (length (a .lists .now) - at) (a .lists .now) (rows .last .0) in
-    let n₁ : length l₁ ≡ length (a .lists .now) = same-len-mid at (length (a .lists .now) - at) (a .lists .now) (rows .last .0) (rows .kept .0) in
-    let from = at + 258 * a .x .points in
-    let first = c .before .before .before .before .before .before .copy in
-    let l₂ = putMid from (length l₁ - from) l₁ (first .last .0) in
-    let n₂ : length l₂ ≡ length l₁ = same-len-mid from (length l₁ - from) l₁ (first .last .0) (first .kept .0) in
+    let k = sizes (a .t .now) (p .0) (a .kinds .now) (p .2) in
     let bad = c .before .before .put-illegal in
-    let l₃ = putMid (from + 17) (length l₂ - (from + 17)) l₂ (bad .last .0) in
-    let n₃ : length l₃ ≡ length l₂ = same-len-mid (from + 17) (length l₂ - (from + 17)) l₂ (bad .last .0) (bad .kept .0) in
-    let i = illegal-kinds t (a .kinds .now) (p .2) (a .x .counters) (x .counters) in
-    let many : bad .result ≡ length (illegalPlaces t) = bad .ensures .0 ∙ ap length i in
-    let to = from + 18 + bad .result in
-    omega (arith, k .points, k .illegals, x .points, p .3, n₁, n₂, n₃, many)
+    let x = p .1 in
+    let many = illegal-count (tableOf (a .t .now)) (a .kinds .now) (p .2) (a .x .counters) (x .counters) (bad .result) (bad .ensures .0) in
+    omega (arith, k .points, k .illegals, x .points, p .3, many)
 
 part-copy-start-2 : tie.Need-part-copy-start-2
 part-copy-start-2 c =
     let a = c .before .before .before .before .before .before .before .before .before .before .before .before .before .before .before .before .before .before .before .args in
     let p = c .before .before .before .before .before .before .before .before .before .before .before .before .before .before .before .before .before .before .before .pre in
-    let x = p .1 in
-    let s = a .t .now in
-    let t = tableOf s in
-    let k = sizes s (p .0) (a .kinds .now) (p .2) in
-    let at = 64 + 256 * a .x .points in
-    let rows = c .before .before .before .before .before .before .before .before .before .before .before .put-place-rows in
-    let l₁ = putMid at (length (a .lists .now) - at) (a .lists .now) (rows .last .0) in
-    let n₁ : length l₁ ≡ length (a .lists .now) = same-len-mid at (length (a .lists .now) - at) (a .lists .now) (rows .last .0) (rows .kept .0) in
-    let from = at + 258 * a .x .points in
-    let first = c .before .before .before .before .before .before .copy in
-    let l₂ = putMid from (length l₁ - from) l₁ (first .last .0) in
-    let n₂ : length l₂ ≡ length l₁ = same-len-mid from (length l₁ - from) l₁ (first .last .0) (first .kept .0) in
+    let k = sizes (a .t .now) (p .0) (a .kinds .now) (p .2) in
     let bad = c .before .before .put-illegal in
-    let l₃ = putMid (from + 17) (length l₂ - (from + 17)) l₂ (bad .last .0) in
-    let n₃ : length l₃ ≡ length l₂ = same-len-mid (from + 17) (length l₂ - (from + 17)) l₂ (bad .last .0) (bad .kept .0) in
-    let i = illegal-kinds t (a .kinds .now) (p .2) (a .x .counters) (x .counters) in
-    let many : bad .result ≡ length (illegalPlaces t) = bad .ensures .0 ∙ ap length i in
-    let to = from + 18 + bad .result in
-    omega (arith, k .points, k .illegals, x .points, p .3, n₁, n₂, n₃, many)
+    let x = p .1 in
+    let many = illegal-count (tableOf (a .t .now)) (a .kinds .now) (p .2) (a .x .counters) (x .counters) (bad .result) (bad .ensures .0) in
+    omega (arith, k .points, k .illegals, x .points, p .3, many)
 
 part-copy-end-2 : tie.Need-part-copy-end-2
 part-copy-end-2 c = search needs
@@ -235,30 +160,13 @@ copy-requires-2 c κs =
     let s = a .t .now in
     let t = tableOf s in
     let k = sizes s (p .0) (a .kinds .now) (p .2) in
-    let at = 64 + 256 * a .x .points in
-    let rows = c .before .before .before .before .before .before .before .before .before .before .before .before .before .put-place-rows in
-    let l₁ = putMid at (length (a .lists .now) - at) (a .lists .now) (rows .last .0) in
-    let n₁ : length l₁ ≡ length (a .lists .now) = same-len-mid at (length (a .lists .now) - at) (a .lists .now) (rows .last .0) (rows .kept .0) in
-    let from = at + 258 * a .x .points in
-    let first = c .before .before .before .before .before .before .before .before .copy in
-    let l₂ = putMid from (length l₁ - from) l₁ (first .last .0) in
-    let n₂ : length l₂ ≡ length l₁ = same-len-mid from (length l₁ - from) l₁ (first .last .0) (first .kept .0) in
     let bad = c .before .before .before .before .put-illegal in
-    let l₃ = putMid (from + 17) (length l₂ - (from + 17)) l₂ (bad .last .0) in
-    let n₃ : length l₃ ≡ length l₂ = same-len-mid (from + 17) (length l₂ - (from + 17)) l₂ (bad .last .0) (bad .kept .0) in
-    let i = illegal-kinds t (a .kinds .now) (p .2) (a .x .counters) (x .counters) in
-    let many : bad .result ≡ length (illegalPlaces t) = bad .ensures .0 ∙ ap length i in
-    let to = from + 18 + bad .result in
-    (omega (arith, k .points, k .illegals, x .points, p .3, x .counts-sized), omega (arith, k .points, k .illegals, x .points, p .3, n₁, n₂, n₃, many, lent-length to l₃ (omega (arith, k .points, k .illegals, x .points, p .3, n₁, n₂, n₃, many))))
+    let many = illegal-count t (a .kinds .now) (p .2) (a .x .counters) (x .counters) (bad .result) (bad .ensures .0) in
+    (omega (arith, k .points, x .points, x .counts-sized), omega (arith, k .points, x .points, p .3, many))
 
 same-length : tie.Need-same-length
 same-length c =
     let a = c .before .before .before .before .before .before .before .before .before .before .before .before .before .before .before .before .before .before .before .before .before .before .before .before .args in
-    let p = c .before .before .before .before .before .before .before .before .before .before .before .before .before .before .before .before .before .before .before .before .before .before .before .before .pre in
-    let x = p .1 in
-    let s = a .t .now in
-    let t = tableOf s in
-    let k = sizes s (p .0) (a .kinds .now) (p .2) in
     let at = 64 + 256 * a .x .points in
     let rows = c .before .before .before .before .before .before .before .before .before .before .before .before .before .before .before .before .put-place-rows in
     let l₁ = putMid at (length (a .lists .now) - at) (a .lists .now) (rows .last .0) in
@@ -270,8 +178,6 @@ same-length c =
     let bad = c .before .before .before .before .before .before .before .put-illegal in
     let l₃ = putMid (from + 17) (length l₂ - (from + 17)) l₂ (bad .last .0) in
     let n₃ : length l₃ ≡ length l₂ = same-len-mid (from + 17) (length l₂ - (from + 17)) l₂ (bad .last .0) (bad .kept .0) in
-    let i = illegal-kinds t (a .kinds .now) (p .2) (a .x .counters) (x .counters) in
-    let many : bad .result ≡ length (illegalPlaces t) = bad .ensures .0 ∙ ap length i in
     let to = from + 18 + bad .result in
     let last = c .before .before .copy2 in
     let l₄ = putMid to (length l₃ - to) l₃ (last .last .0) in
@@ -297,8 +203,7 @@ returns c =
     let bad = c .before .before .before .before .before .before .before .put-illegal in
     let l₃ = putMid (from + 17) (length l₂ - (from + 17)) l₂ (bad .last .0) in
     let n₃ : length l₃ ≡ length l₂ = same-len-mid (from + 17) (length l₂ - (from + 17)) l₂ (bad .last .0) (bad .kept .0) in
-    let i = illegal-kinds t (a .kinds .now) (p .2) (a .x .counters) (x .counters) in
-    let many : bad .result ≡ length (illegalPlaces t) = bad .ensures .0 ∙ ap length i in
+    let many = illegal-count t (a .kinds .now) (p .2) (a .x .counters) (x .counters) (bad .result) (bad .ensures .0) in
     let to = from + 18 + bad .result in
     let last = c .before .before .copy2 in
     let l₄ = putMid to (length l₃ - to) l₃ (last .last .0) in

@@ -1,15 +1,14 @@
-use mathlib.Core.Path.{_≡_, refl, sym, ap, ap₂, _∙_}
-use Prim.Native.Nat.{ℕ, _+_, _-_, _*_, _≤_, _<_}
+use mathlib.Core.Path.{_≡_, refl, ap, _∙_}
+use Prim.Native.Nat.{_+_, _-_, _*_, _≤_, _<_}
 use native.Mathlib.Omega.{arith}
-use borrow.Rule.Slice.PartMut.{putMid, same-len-mid}
-use lib.ListN.{length, getD, take, drop}
-use Rattle.model.specs.Counters.{pointCounters}
+use borrow.Rule.Slice.PartMut.{same-len-mid}
+use lib.ListN.{length, getD}
 use Rattle.model.specs.Format.{tableOf}
 use Rattle.model.specs.Register.{pointTotal}
 use Rattle.points.proofs.AllLaws.{point-number, few-here}
 use Rattle.arrays.specs.Put.{put}
 use Rattle.lists.proofs.Fronts.{lent-length, back-put}
-use Rattle.lists.proofs.RowLaws.{RowsTo, pointRow, row-is, rows-none, rows-next, rows-all, turn}
+use Rattle.lists.proofs.RowLaws.{RowsTo, row-is, rows-none, rows-next, rows-all, turn}
 use Rattle.lists.proofs.rows.put_place_rows.Statement.{statement}
 use Rattle.lists.proofs.rows.put_place_rows.Tie as tie
 
