@@ -3,3 +3,5 @@ pub mod FoundLaws
 pub mod Own
 pub mod ValueExact
 pub mod Ready
+pub mod RowLaws
+pub mod AllPlaces

@@ -160,6 +160,10 @@ module _ (s w lens : List ℕ) (ok : accepted s ≡ true) (widths : inWidths (ta
   pub flags-few : length (transitionFlags s w lens p (eqb code 8589934592) (l .transitions) (l .«transition_count»)) ≤ 64
   flags-few = omega (arith, flags-length, few-transitions p 0 (tableOf s .transitionBins), few-bins s w lens ok widths words p inside)
 
+  -- from where the point's counters end, back by the number of flags
+  pub base-is : (end n : ℕ) → end ≡ transitionStart (tableOf s) p + length (transitionCounters p 0 (tableOf s .transitionBins)) → n ≡ 0 + length (transitionFlags s w lens p (eqb code 8589934592) (l .transitions) (l .«transition_count»)) → (n ≤ end) × (end - n ≡ transitionStart (tableOf s) p)
+  base-is end n e z = (omega (arith, flags-length), omega (arith, flags-length))
+
   pub places-small : transitionStart (tableOf s) p + length (transitionFlags s w lens p (eqb code 8589934592) (l .transitions) (l .«transition_count»)) ≤ 65535
   unfolding transitionStart pointCounters
   places-small =

@@ -6,9 +6,9 @@ use mathlib.Core.List.{List, [], _++_, map}
 use lib.ListN.{length, getD, take, drop}
 use Rattle.model.specs.Table.{Table}
 use Rattle.model.specs.Counters.{valueCounters, autoCounters, transitionCounters}
-use Rattle.model.specs.Sampling.{hits}
+use Rattle.model.specs.Sampling.{Stretches, hits}
 use Rattle.model.specs.Register.{runStretches}
-use Rattle.arrays.specs.Flat.{covers, pointStart}
+use Rattle.arrays.specs.Flat.{allPointCounters, covers, pointStart}
 use Rattle.places.specs.Places.{placesFrom, coverPlaces, plainPlaces, hitParts}
 
 -- ---- what is hit
@@ -24,6 +24,10 @@ transitionStart t p = pointStart t p + length (valueCounters t p 0 (t .valueBins
 -- of its transition bins, whose matched lengths are `lens`
 unfoldable pub transitionPlaces : Table → List ℕ → List ℕ → ℕ → List ℕ
 transitionPlaces t w lens p = placesFrom (hits t w (runStretches lens)) (transitionStart t p) (transitionCounters p 0 (t .transitionBins))
+
+-- of all points' counters
+unfoldable pub allPlaces : Table → List ℕ → Stretches → List ℕ
+allPlaces t w m = placesFrom (hits t w m) 0 (allPointCounters t)
 
 -- ---- what it is taken from
 

@@ -1,4 +1,5 @@
-// The places of a point's counters that a sample hits.
+// The places of the points' counters that a sample hits.
+pub mod all;
 pub mod bins;
 mod found;
 mod plains;

@@ -4,8 +4,9 @@ use places::put_set;
 use points::readings::PointReading;
 use points::transitions::put_transitions;
 ghost use mathlib.Core.Path.{_≡_};
-ghost use Prim.Native.Nat.{_<_, _≤_};
+ghost use Prim.Native.Nat.{_<_, _≤_, _+_};
 ghost use lib.ListN.{length, take};
+ghost use Rattle.model.specs.Counters.{transitionCounters};
 ghost use Rattle.model.specs.Sampling.{reading};
 ghost use Rattle.model.specs.Format.{tableOf};
 ghost use Rattle.model.specs.Register.{pointTotal};
@@ -14,7 +15,7 @@ ghost use Rattle.arrays.specs.Flat.{readingCode};
 ghost use Rattle.points.specs.Hits.{Sampled};
 ghost use Rattle.hits.specs.Places.{transitionStart, transitionPlaces};
 
-// By the places of the layout. lens: the matched lengths of each transition bin; base: where the counters of the point's transition bins begin.
+// By the places of the layout. lens: the matched lengths of each transition bin; end: where the counters of the point's transition bins end.
 pub fn put_transition_hits(
     hits: &mut [u16],
     t: &[u8],
@@ -22,12 +23,12 @@ pub fn put_transition_hits(
     sample: &[u32],
     lens: &[u32],
     own: PointReading,
-    base: usize,
+    end: usize,
 ) -> usize
-    requires { ⌜ (Sampled (now t) l (now sample)) × (own .point < pointTotal (tableOf (now t))) × (own .code ≡ readingCode (reading (tableOf (now t)) (now sample) (own .point))) × (64 ≤ length (now lens)) × (64 ≤ length (now hits)) × (base ≡ transitionStart (tableOf (now t)) (own .point)) ⌝ }
+    requires { ⌜ (Sampled (now t) l (now sample)) × (own .point < pointTotal (tableOf (now t))) × (own .code ≡ readingCode (reading (tableOf (now t)) (now sample) (own .point))) × (64 ≤ length (now lens)) × (64 ≤ length (now hits)) × (end ≡ transitionStart (tableOf (now t)) (own .point) + length (transitionCounters (own .point) 0 (tableOf (now t) .transitionBins))) ⌝ }
     ensures { λ r. ⌜ (r ≡ length (transitionPlaces (tableOf (now (t .entry))) (now (sample .entry)) (take (length (tableOf (now (t .entry)) .transitionBins)) (now (lens .entry))) (own .point))) × (now (hits .exit) ≡ put 0 (transitionPlaces (tableOf (now (t .entry))) (now (sample .entry)) (take (length (tableOf (now (t .entry)) .transitionBins)) (now (lens .entry))) (own .point)) (now (hits .entry))) ⌝ }
 {
     let mut flags = [0u8; 64];
     let n = put_transitions(&mut flags, 0, t, l, sample, lens, own);
-    put_set(hits, &flags, n, base)
+    put_set(hits, &flags, n, end - n)
 }
