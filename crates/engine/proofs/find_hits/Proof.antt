@@ -1,0 +1,51 @@
+use mathlib.Core.Path.{_≡_, _∙_}
+use native.Mathlib.Omega.{arith}
+use Rattle.model.specs.Format.{tableOf}
+use Rattle.found.proofs.AllLaws.{count-points}
+use borrow.Author.Needs.{needs}
+use Rattle.engine.proofs.find_hits.Statement.{statement}
+use Rattle.engine.proofs.find_hits.Tie as tie
+use Rattle.engine.proofs.find_hits.Reads as reads
+use Rattle.engine.proofs.find_hits.Lts as lts
+use Rattle.engine.proofs.find_largest.Reads as find-largest-reads
+use Rattle.engine.proofs.find_small.Reads as find-small-reads
+use Rattle.layout.proofs.layout_of.Reads as layout-of-reads
+
+layout-of-requires : tie.Need-layout-of-requires
+layout-of-requires c κs = search needs
+
+find-small-requires : tie.Need-find-small-requires
+find-small-requires c κs =
+    let a = c .before .before .before .before .before .before .before .before .before .before .before .args in
+    let p = c .before .before .before .before .before .before .before .before .before .before .before .pre in
+    let s = a .t .now in
+    let lay = c .before .before .before .layout-of in
+    let n = count-points s (lay .result) (lay .ensures .0) (p .0) in
+    (p .0, p .1, p .2, p .3, p .4, p .5, omega (arith, n, c .before .if1))
+
+same-length : tie.Need-same-length
+same-length c = search needs
+
+returns : tie.Need-returns
+returns c = search needs
+
+find-largest-requires : tie.Need-find-largest-requires
+find-largest-requires c κs = search needs
+
+same-length-2 : tie.Need-same-length-2
+same-length-2 c = search needs
+
+returns-2 : tie.Need-returns-2
+returns-2 c = search needs
+
+pub find-hits-spec : {M : Type 1} → statement M
+find-hits-spec =
+    tie.close
+    (tie.spec
+    layout-of-requires
+    find-small-requires
+    same-length
+    returns
+    find-largest-requires
+    same-length-2
+    returns-2)

@@ -1,0 +1,98 @@
+use mathlib.Core.Path.{_≡_, _∙_}
+use native.Mathlib.Omega.{arith}
+use Rattle.model.specs.Format.{tableOf}
+use Rattle.found.proofs.AllLaws.{count-points}
+use Rattle.engine.proofs.EngineLaws.{counts-at, counts-part, marks-part}
+use borrow.Author.Needs.{needs}
+use Rattle.engine.proofs.put_crossed.Statement.{statement}
+use Rattle.engine.proofs.put_crossed.Tie as tie
+use Rattle.engine.proofs.put_crossed.Reads as reads
+use Rattle.engine.proofs.put_crossed.Lts as lts
+use Rattle.arrays.proofs.element.Reads as element-reads
+use Rattle.crosshits.proofs.all.put_cross_hits.Reads as put-cross-hits-reads
+use Rattle.layout.proofs.layout_of.Reads as layout-of-reads
+
+layout-of-requires : tie.Need-layout-of-requires
+layout-of-requires c κs = search needs
+
+mul-at : tie.Need-mul-at
+mul-at c = search needs
+
+add-at : tie.Need-add-at
+add-at c = search needs
+
+element-requires : tie.Need-element-requires
+element-requires c κs = search needs
+
+cast-c : tie.Need-cast-c
+cast-c c = search needs
+
+slice-aggregate-put-cross-hits : tie.Need-slice-aggregate-put-cross-hits
+slice-aggregate-put-cross-hits c = search needs
+
+add-put-cross-hits : tie.Need-add-put-cross-hits
+add-put-cross-hits c = search needs
+
+add-put-cross-hits-2 : tie.Need-add-put-cross-hits-2
+add-put-cross-hits-2 c = search needs
+
+mul-put-cross-hits : tie.Need-mul-put-cross-hits
+mul-put-cross-hits c = search needs
+
+sub-put-cross-hits : tie.Need-sub-put-cross-hits
+sub-put-cross-hits c =
+    let a = c .before .before .before .before .before .before .before .before .before .before .args in
+    let p = c .before .before .before .before .before .before .before .before .before .before .pre in
+    let s = a .t .now in
+    let lay = c .before .before .before .before .layout-of in
+    let n = count-points s (lay .result) (lay .ensures .0) (p .0 .0) in
+    omega (arith, p .0 .4, counts-at (tableOf s) (a .lists .now) (p .0 .2) (p .0 .4) (lay .result .«point_count») n (c .before .before .element .result) (c .before .before .element .ensures))
+
+part-put-cross-hits-start : tie.Need-part-put-cross-hits-start
+part-put-cross-hits-start c =
+    let a = c .before .before .before .before .before .before .before .before .before .before .args in
+    let p = c .before .before .before .before .before .before .before .before .before .before .pre in
+    let s = a .t .now in
+    let lay = c .before .before .before .before .layout-of in
+    let n = count-points s (lay .result) (lay .ensures .0) (p .0 .0) in
+    omega (arith, p .0 .4, counts-at (tableOf s) (a .lists .now) (p .0 .2) (p .0 .4) (lay .result .«point_count») n (c .before .before .element .result) (c .before .before .element .ensures))
+
+part-put-cross-hits-end : tie.Need-part-put-cross-hits-end
+part-put-cross-hits-end c = search needs
+
+put-cross-hits-requires : tie.Need-put-cross-hits-requires
+put-cross-hits-requires c κs =
+    let a = c .before .before .before .before .before .before .before .before .before .before .before .args in
+    let p = c .before .before .before .before .before .before .before .before .before .before .before .pre in
+    let s = a .t .now in
+    let lay = c .before .before .before .before .before .layout-of in
+    let n = count-points s (lay .result) (lay .ensures .0) (p .0 .0) in
+    let q = c .before .before .before .element in
+    let e = counts-at (tableOf s) (a .lists .now) (p .0 .2) (p .0 .4) (lay .result .«point_count») n (q .result) (q .ensures) in
+    ((p .0 .0, p .0 .1, counts-part (tableOf s) (a .lists .now) (p .0 .2) (p .0 .4) (lay .result .«point_count») n _ e, marks-part (tableOf s) (a .lists .now) (p .0 .2) (p .0 .4) (lay .result .«point_count») n _ e (p .0 .3)), (p .1 .0, p .1 .1, omega arith))
+
+same-length : tie.Need-same-length
+same-length c = search needs
+
+returns : tie.Need-returns
+returns c = search needs
+
+pub put-crossed-spec : {M : Type 1} → statement M
+put-crossed-spec =
+    tie.close
+    (tie.spec
+    layout-of-requires
+    mul-at
+    add-at
+    element-requires
+    cast-c
+    slice-aggregate-put-cross-hits
+    add-put-cross-hits
+    add-put-cross-hits-2
+    mul-put-cross-hits
+    sub-put-cross-hits
+    part-put-cross-hits-start
+    part-put-cross-hits-end
+    put-cross-hits-requires
+    same-length
+    returns)
