@@ -1,24 +1,11 @@
-// Counts that are raised by what the sample hits.
+// Unknown counts that are raised.
 use arrays::raised;
 ghost use mathlib.Core.Path.{_≡_};
 ghost use mathlib.Core.Bool.{true};
 ghost use Prim.Native.Nat.{_<_, _≤_, _+_};
 ghost use lib.ListN.{length, take, drop};
 ghost use Rattle.arrays.specs.Put.{put};
-ghost use Rattle.samples.specs.Adds.{addHits, isSet, isUnknownCode, allRoom};
-
-// Each of n counts from at on is raised by its flag.
-pub fn add_flags(register: &mut [u32], at: usize, flags: &[u8], n: usize)
-    requires { ⌜ (at + n ≤ length (now register)) × (n ≤ length (now flags)) × (allRoom (take n (drop at (now register))) ≡ true) ⌝ }
-    ensures { λ _. ⌜ now (register .exit) ≡ put at (addHits isSet (take n (now (flags .entry))) (take n (drop at (now (register .entry))))) (now (register .entry)) ⌝ }
-{
-    let mut i = 0;
-    while i < n {
-        let k = at + i;
-        register[k] = raised(register[k], flags[i] == 1);
-        i += 1;
-    }
-}
+ghost use Rattle.samples.specs.Adds.{addHits, isUnknownCode, allRoom};
 
 // Each of n counts from at on is raised where its point's reading is unknown.
 pub fn add_unknowns(register: &mut [u32], at: usize, readings: &[u64], n: usize)

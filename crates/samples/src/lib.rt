@@ -3,5 +3,5 @@ pub mod adds;
 pub mod counts;
 pub mod listed;
 pub mod raises;
-pub mod report;
+pub mod single;
 pub mod write;
