@@ -1,7 +1,7 @@
 // The samples of a batch, in turn, on a table and a register that passed their tests.
 use crate::Taken;
 use register::refusals::own_refusal;
-use samples::write::write_sample;
+use samples::single::write_sample;
 use table::answer::Facts;
 ghost use mathlib.Core.Path.{_≡_};
 ghost use Prim.Native.Nat.{_≤_};
