@@ -1,7 +1,6 @@
-// Flat arrays over all counters of an accepted table, in the register's order: what a sample raises, what each counter is, what is in the total, whose item it is.
+// Flat arrays over all counters of an accepted table, in the register's order: what each counter is, what is in the total, whose item it is.
 mod planned;
 
-use crate::planned::put_marks;
 use crate::planned::put_planned;
 use crosses::all::put_crosses;
 use crosses::bins::Ask;
@@ -9,21 +8,18 @@ use crosses::labels::put_cross_items;
 use crosses::labels::put_cross_kinds;
 use layout::layout_of;
 use points::counts::put_counts;
-use points::gates::gather;
 use points::items::put_point_items;
 use points::kinds::put_point_kinds;
-use points::points::put_points;
 use points::spread::scatter;
 ghost use mathlib.Core.Path.{_≡_};
 ghost use mathlib.Core.Bool.{true};
-ghost use Prim.Native.Nat.{_+_, _*_, _≤_};
-ghost use lib.ListN.{length, take};
+ghost use Prim.Native.Nat.{_*_, _≤_};
+ghost use lib.ListN.{length};
 ghost use Rattle.model.specs.Format.{accepted, tableOf};
 ghost use Rattle.model.specs.Counters.{counters};
-ghost use Rattle.model.specs.Sampling.{Stretches, coverHit};
-ghost use Rattle.model.specs.Register.{pointTotal, counterTotal, runStretches};
+ghost use Rattle.model.specs.Register.{pointTotal};
 ghost use Rattle.arrays.specs.Put.{put};
-ghost use Rattle.arrays.specs.Flat.{hitFlags, totalFlags, kindsOf, itemsOf, allCrossCounters, Tells, Readings};
+ghost use Rattle.arrays.specs.Flat.{totalFlags, kindsOf, itemsOf};
 ghost use Rattle.crosses.specs.Marked.{markTotal};
 ghost use Rattle.sampling.specs.Index.{Roomy, Indexed, Labelled};
 
@@ -52,93 +48,6 @@ pub fn put_kinds(kinds: &mut [u8], t: &[u8]) -> Index
         points: l.point_count,
         counters: m,
     }
-}
-
-// ---- the crosses' part of a sample, from at on: the gate tells which cover bins it hits
-
-fn crossed_in(
-    flags: &mut [u8],
-    t: &[u8],
-    sample: &[u32],
-    gate: &[u8],
-    marks: &mut [u16],
-    x: Index,
-    at: usize,
-)
-    requires { ⌜ (accepted (now t) ≡ true) × Indexed (tableOf (now t)) x × (at + length (allCrossCounters (tableOf (now t))) ≤ length (now flags)) × (markTotal (tableOf (now t)) ≤ length (now marks)) ⌝ }
-    ensures { λ _. ⌜ (Tells (coverHit (tableOf (now (t .entry))) (now (sample .entry))) (tableOf (now (t .entry))) (now (gate .entry)) → (m : Stretches) → now (flags .exit) ≡ put at (hitFlags (tableOf (now (t .entry))) (now (sample .entry)) m (allCrossCounters (tableOf (now (t .entry))))) (now (flags .entry))) ⌝ }
-{
-    let counts = x.counts;
-    put_marks(marks, t, x);
-    let ask = Ask {
-        at: at,
-        total: false,
-    };
-    put_crosses(flags, t, sample, &counts, gate, marks, ask);
-}
-
-fn small_crossed(flags: &mut [u8], t: &[u8], sample: &[u32], gate: &[u8], x: Index, at: usize)
-    requires { ⌜ (accepted (now t) ≡ true) × Indexed (tableOf (now t)) x × (at + length (allCrossCounters (tableOf (now t))) ≤ length (now flags)) × (counterTotal (tableOf (now t)) ≤ 1024) ⌝ }
-    ensures { λ _. ⌜ (Tells (coverHit (tableOf (now (t .entry))) (now (sample .entry))) (tableOf (now (t .entry))) (now (gate .entry)) → (m : Stretches) → now (flags .exit) ≡ put at (hitFlags (tableOf (now (t .entry))) (now (sample .entry)) m (allCrossCounters (tableOf (now (t .entry))))) (now (flags .entry))) ⌝ }
-{
-    let mut marks = [0u16; 1024];
-    crossed_in(flags, t, sample, gate, &mut marks, x, at);
-}
-
-fn medium_crossed(flags: &mut [u8], t: &[u8], sample: &[u32], gate: &[u8], x: Index, at: usize)
-    requires { ⌜ (accepted (now t) ≡ true) × Indexed (tableOf (now t)) x × (at + length (allCrossCounters (tableOf (now t))) ≤ length (now flags)) × (counterTotal (tableOf (now t)) ≤ 4096) ⌝ }
-    ensures { λ _. ⌜ (Tells (coverHit (tableOf (now (t .entry))) (now (sample .entry))) (tableOf (now (t .entry))) (now (gate .entry)) → (m : Stretches) → now (flags .exit) ≡ put at (hitFlags (tableOf (now (t .entry))) (now (sample .entry)) m (allCrossCounters (tableOf (now (t .entry))))) (now (flags .entry))) ⌝ }
-{
-    let mut marks = [0u16; 4096];
-    crossed_in(flags, t, sample, gate, &mut marks, x, at);
-}
-
-fn largest_crossed(flags: &mut [u8], t: &[u8], sample: &[u32], gate: &[u8], x: Index, at: usize)
-    requires { ⌜ (accepted (now t) ≡ true) × Indexed (tableOf (now t)) x × (at + length (allCrossCounters (tableOf (now t))) ≤ length (now flags)) ⌝ }
-    ensures { λ _. ⌜ (Tells (coverHit (tableOf (now (t .entry))) (now (sample .entry))) (tableOf (now (t .entry))) (now (gate .entry)) → (m : Stretches) → now (flags .exit) ≡ put at (hitFlags (tableOf (now (t .entry))) (now (sample .entry)) m (allCrossCounters (tableOf (now (t .entry))))) (now (flags .entry))) ⌝ }
-{
-    let mut marks = [0u16; 8192];
-    crossed_in(flags, t, sample, gate, &mut marks, x, at);
-}
-
-fn put_crossed(flags: &mut [u8], t: &[u8], sample: &[u32], gate: &[u8], x: Index, at: usize)
-    requires { ⌜ (accepted (now t) ≡ true) × Indexed (tableOf (now t)) x × (at + length (allCrossCounters (tableOf (now t))) ≤ length (now flags)) ⌝ }
-    ensures { λ _. ⌜ (Tells (coverHit (tableOf (now (t .entry))) (now (sample .entry))) (tableOf (now (t .entry))) (now (gate .entry)) → (m : Stretches) → now (flags .exit) ≡ put at (hitFlags (tableOf (now (t .entry))) (now (sample .entry)) m (allCrossCounters (tableOf (now (t .entry))))) (now (flags .entry))) ⌝ }
-{
-    let l = layout_of(t);
-    if l.cross_count == 0 {
-        return;
-    }
-    if x.counters <= 1024 {
-        small_crossed(flags, t, sample, gate, x, at);
-        return;
-    }
-    if x.counters <= 4096 {
-        medium_crossed(flags, t, sample, gate, x, at);
-        return;
-    }
-    largest_crossed(flags, t, sample, gate, x, at);
-}
-
-// What a sample raises. kinds and x are the table's.
-pub fn put_hits(
-    flags: &mut [u8],
-    t: &[u8],
-    sample: &[u32],
-    readings: &[u64],
-    lens: &[u32],
-    kinds: &[u8],
-    x: Index,
-)
-    requires { ⌜ (accepted (now t) ≡ true) × Roomy (tableOf (now t)) (length (now flags)) × (64 ≤ length (now lens)) × (16 ≤ length (now readings)) × Readings (tableOf (now t)) (now sample) (now readings) ⌝ }
-    requires { ⌜ Indexed (tableOf (now t)) x × Labelled (tableOf (now t)) (now kinds) ⌝ }
-    ensures { λ _. ⌜ now (flags .exit) ≡ put 0 (hitFlags (tableOf (now (t .entry))) (now (sample .entry)) (runStretches (take (length (tableOf (now (t .entry)) .transitionBins)) (now (lens .entry)))) (counters (tableOf (now (t .entry))))) (now (flags .entry)) ⌝ }
-{
-    let starts = x.starts;
-    let n = put_points(flags, t, sample, readings, lens);
-    let mut gate = [0u8; 4096];
-    gather(&mut gate, t, kinds, flags, &starts);
-    put_crossed(flags, t, sample, &gate, x, n);
 }
 
 // ---- which counters count in their item's total

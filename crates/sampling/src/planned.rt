@@ -39,17 +39,6 @@ fn plan_in(has: &mut [u8], marks: &mut [u16], plan: &mut [u64], t: &[u8], x: Ind
     mark_all(marks, t, &counts, plan, &lists);
 }
 
-// The marks alone.
-fn marks_in(marks: &mut [u16], plan: &mut [u64], t: &[u8], x: Index)
-    requires { ⌜ (accepted (now t) ≡ true) × Indexed (tableOf (now t)) x × (planNeed (tableOf (now t)) ≤ length (now plan)) × (markTotal (tableOf (now t)) ≤ length (now marks)) ⌝ }
-    ensures { λ _. ⌜ Marked (tableOf (now (t .entry))) (now (marks .exit)) ⌝ }
-{
-    let counts = x.counts;
-    let mut lists = [0u16; 4160];
-    put_lists(plan, &mut lists, t);
-    mark_all(marks, t, &counts, plan, &lists);
-}
-
 // ---- size classes
 
 fn small_plan(has: &mut [u8], marks: &mut [u16], t: &[u8], x: Index)
@@ -77,30 +66,6 @@ fn largest_plan(has: &mut [u8], marks: &mut [u16], t: &[u8], x: Index)
 {
     let mut plan = [0u64; 23712];
     plan_in(has, marks, &mut plan, t, x);
-}
-
-fn small_marks(marks: &mut [u16], t: &[u8], x: Index)
-    requires { ⌜ (accepted (now t) ≡ true) × Indexed (tableOf (now t)) x × (markTotal (tableOf (now t)) ≤ length (now marks)) × (planNeed (tableOf (now t)) ≤ 1024) ⌝ }
-    ensures { λ _. ⌜ Marked (tableOf (now (t .entry))) (now (marks .exit)) ⌝ }
-{
-    let mut plan = [0u64; 1024];
-    marks_in(marks, &mut plan, t, x);
-}
-
-fn medium_marks(marks: &mut [u16], t: &[u8], x: Index)
-    requires { ⌜ (accepted (now t) ≡ true) × Indexed (tableOf (now t)) x × (markTotal (tableOf (now t)) ≤ length (now marks)) × (planNeed (tableOf (now t)) ≤ 4096) ⌝ }
-    ensures { λ _. ⌜ Marked (tableOf (now (t .entry))) (now (marks .exit)) ⌝ }
-{
-    let mut plan = [0u64; 4096];
-    marks_in(marks, &mut plan, t, x);
-}
-
-fn largest_marks(marks: &mut [u16], t: &[u8], x: Index)
-    requires { ⌜ (accepted (now t) ≡ true) × Indexed (tableOf (now t)) x × (markTotal (tableOf (now t)) ≤ length (now marks)) ⌝ }
-    ensures { λ _. ⌜ Marked (tableOf (now (t .entry))) (now (marks .exit)) ⌝ }
-{
-    let mut plan = [0u64; 23712];
-    marks_in(marks, &mut plan, t, x);
 }
 
 // At least as many words as the plan of the table's values needs: a point's counters are at least as many as its cover bins.
@@ -131,21 +96,4 @@ pub fn put_planned(has: &mut [u8], marks: &mut [u16], t: &[u8], x: Index)
         return;
     }
     largest_plan(has, marks, t, x);
-}
-
-// The marks of the products of all crosses alone.
-pub fn put_marks(marks: &mut [u16], t: &[u8], x: Index)
-    requires { ⌜ (accepted (now t) ≡ true) × Indexed (tableOf (now t)) x × (markTotal (tableOf (now t)) ≤ length (now marks)) ⌝ }
-    ensures { λ _. ⌜ Marked (tableOf (now (t .entry))) (now (marks .exit)) ⌝ }
-{
-    let need = plan_words(t, x);
-    if need <= 1024 {
-        small_marks(marks, t, x);
-        return;
-    }
-    if need <= 4096 {
-        medium_marks(marks, t, x);
-        return;
-    }
-    largest_marks(marks, t, x);
 }

@@ -12,12 +12,3 @@ pub struct SampledValue {
     pub value: u64,
     pub live: bool,
 }
-
-// A known reading of a point: the value, the lowest value of its type, and whether the point's bins exclude it or list it.
-pub struct KnownReading {
-    pub point: u8,
-    pub low: u64,
-    pub value: u64,
-    pub excluded: bool,
-    pub listed: bool,
-}

@@ -1,24 +1,16 @@
-// The flags of a point's value bins and auto bins.
+// The auto bins of a point.
 use crate::autos::put_auto;
-use crate::bins::listed;
-use crate::flags::put_bins;
-use crate::given::KnownReading;
-use layout::Layout;
-use ranges::taken::excluded;
 use words::bytes::byte;
 use words::bytes::read2;
 ghost use mathlib.Core.Path.{_≡_};
-ghost use mathlib.Core.Bool.{true, not};
-ghost use Prim.Native.Nat.{_<_, _≤_, _+_, _*_, _^_, min};
+ghost use mathlib.Core.Bool.{true};
+ghost use Prim.Native.Nat.{_<_, _≤_, _+_, min};
 ghost use lib.ListN.{length};
 ghost use Rattle.model.specs.Format.{pointRecord, u16, byte};
-ghost use Rattle.model.specs.Counters.{autoCount};
 ghost use Rattle.model.specs.Values.{lowest, highest};
-ghost use Rattle.model.specs.Raw.{binsAt};
 ghost use Rattle.ranges.specs.Types.{Wide};
 ghost use Rattle.arrays.specs.Put.{put};
-ghost use Rattle.values.specs.Flags.{fits};
-ghost use Rattle.values.specs.Points.{someOwn, hasAutoAt, autoPart, pointFlags, Near};
+ghost use Rattle.values.specs.Points.{someOwn, hasAutoAt, autoPart};
 
 // One of n records of size bytes is a cover bin of the point, or a default bin if these count.
 fn some_own(t: &[u8], start: usize, size: usize, n: usize, p: u8, defaults: bool) -> bool
@@ -82,36 +74,6 @@ pub fn auto_count(all: u64, most: u16) -> usize
     } else {
         most as usize
     }
-}
-
-// The flags of point p for the value v, in a table with that layout.
-pub fn put_point(
-    flags: &mut [u8],
-    cur: usize,
-    t: &[u8],
-    l: Layout,
-    sample: &[u32],
-    p: u8,
-    v: u64,
-) -> usize
-    requires { ⌜ (Near (l .points + 11 * p) (l .bins) (l .ranges) (l .«bin_count») (l .transitions) (l .«transition_count»)) × Wide (now t) (l .points + 11 * p) × (1 ≤ u16 (now t) (l .points + 11 * p + 9)) × (fits (binsAt (now t) (l .bins) (l .ranges) (l .«bin_count»)) ≡ true) ⌝ }
-    requires { ⌜ (v < 2 ^ 60) × (lowest (pointRecord (now t) (l .points + 11 * p)) ≤ v) × (v ≤ highest (pointRecord (now t) (l .points + 11 * p))) × (cur + length (pointFlags (now t) (l .points + 11 * p) (l .bins) (l .ranges) (l .«bin_count») (l .transitions) (l .«transition_count») (now sample) p v) ≤ length (now flags)) ⌝ }
-    ensures { λ e. ⌜ (e ≡ cur + length (pointFlags (now (t .entry)) (l .points + 11 * p) (l .bins) (l .ranges) (l .«bin_count») (l .transitions) (l .«transition_count») (now (sample .entry)) p v)) × (now (flags .exit) ≡ put cur (pointFlags (now (t .entry)) (l .points + 11 * p) (l .bins) (l .ranges) (l .«bin_count») (l .transitions) (l .«transition_count») (now (sample .entry)) p v) (now (flags .entry))) ⌝ }
-{
-    let point = l.points + 11 * (p as usize);
-    let x = excluded(t, l.bins, l.ranges, l.bin_count, p, v);
-    let y = listed(t, l.bins, l.ranges, l.bin_count, p, v);
-    let has = has_auto(t, l.bins, l.bin_count, l.transitions, l.transition_count, p);
-    let low = lowest_at(t, point);
-    let h = KnownReading {
-        point: p,
-        low: low,
-        value: v,
-        excluded: x,
-        listed: y,
-    };
-    let c = put_bins(flags, cur, t, l, sample, h);
-    put_autos(flags, c, t, point, v, has, !x)
 }
 
 // The lowest value of the point's type.

@@ -105,8 +105,7 @@ returns c =
     let e = runs-advanced b (p .0) (a .sample .now) (a .register .now) (p .2) (p .3) at here (g .last .0) (g .ensures (a .sample .now) known) in
     let l = c .before .before .before .before .before .before .before .put-lengths in
     let h = c .before .before .find-hits in
-    let told = places-found b (p .0) (a .sample .now) (a .register .now) (p .2) (p .3) at here (g .last .0) _ (l .last .0) e (omega arith) (l .ensures) in
-    (
+    let told = places-found b (p .0) (a .sample .now) (a .register .now) (p .2) (p .3) at here (g .last .0) _ (l .last .0) e (omega arith) (l .ensures) in (
       e ∙ ap (λ (i : ℕ). put i (runsAfter (tableOf b) (a .sample .now) (a .register .now)) (a .register .now)) here,
       ((h .ensures .0 ∙ ap length told, h .ensures .1 ∙ ap (λ (x : List ℕ). put 0 x (a .hits .now)) told), r .ensures),
     )
