@@ -1,15 +1,18 @@
 // The DPI-C side: a register for the table `yarn.table`, a sample at each clock, and a log `yarn.log` for replay.
+// Samples are kept until there are BUFFER of them, and are then given to the library in one call.
 #include <cstdio>
 #include <cstdlib>
 #include <vector>
 #include "fluviquen.h"
 
-static const size_t POINTS = 4, SAMPLE = 4 + 2 * POINTS;
+static const size_t POINTS = 4, SAMPLE = 4 + 2 * POINTS, BUFFER = 256;
 
 // One byte more than a table may have, so that a longer file is refused.
 static std::vector<uint8_t> table(65537);
-static std::vector<uint32_t> reg, report;
-static unsigned clocks;
+static std::vector<uint32_t> reg, kept, reports;
+static size_t illegals;
+// Clocks that were sampled, and those that the library has.
+static unsigned clocks, given;
 static FILE *entries;
 
 static void must(bool ok, const char *what) {
@@ -41,29 +44,46 @@ extern "C" void coverage_begin() {
     uint32_t words, illegal;
     accepted(fluviquen_measure(table.data(), table.size(), &words, &illegal), "yarn.table");
     reg.resize(words);
-    report.resize(illegal);
+    illegals = illegal;
+    reports.resize(illegals * BUFFER);
     accepted(fluviquen_reset(table.data(), table.size(), reg.data(), reg.size()), "the reset");
     entries = std::fopen("yarn.log", "wb");
     must(entries != nullptr, "yarn.log cannot be written");
 }
 
+// Gives the library what is kept, and says which illegal bins each clock raises.
+static void flush() {
+    size_t taken;
+    uint32_t refusal = fluviquen_samples(table.data(), table.size(), reg.data(), reg.size(), kept.data(), kept.size(), reports.data(), reports.size(), &taken);
+    for (size_t i = 0; i < taken * illegals; i++) {
+        if (reports[i] == 1) {
+            std::printf("clock %zu raises illegal bin %zu\n", given + i / illegals, i % illegals);
+        }
+    }
+    given += taken;
+    if (refusal != FLUVIQUEN_ACCEPTED) {
+        std::fprintf(stderr, "coverage: the sample of clock %u is refused with %u\n", given, refusal);
+        std::exit(1);
+    }
+    kept.clear();
+}
+
 extern "C" void coverage_sample(unsigned turning, unsigned thread, unsigned unknown, unsigned speed, unsigned grade, unsigned timeout) {
     // Guard bit 0: the wheel turns.
     const uint32_t sample[SAMPLE] = {turning, 0, 0, 0, thread, unknown, speed, 0, grade, 0, timeout, 0};
-    accepted(fluviquen_sample(table.data(), table.size(), reg.data(), reg.size(), sample, SAMPLE, report.data(), report.size()), "a sample");
-    for (size_t i = 0; i < report.size(); i++) {
-        if (report[i] == 1) {
-            std::printf("clock %u raises illegal bin %zu\n", clocks, i);
-        }
-    }
     log_word(0);
     for (uint32_t word : sample) {
         log_word(word);
+        kept.push_back(word);
     }
     clocks++;
+    if (kept.size() == BUFFER * SAMPLE) {
+        flush();
+    }
 }
 
 extern "C" void coverage_end() {
+    flush();
     uint32_t present, millionths;
     accepted(fluviquen_group_figure(table.data(), table.size(), reg.data(), reg.size(), &present, &millionths), "the group figure");
     must(present == 1, "nothing to cover");
