@@ -404,10 +404,10 @@ fn the_stack_it_says() {
     let table = file(&folder, "table", &bytes);
     let log = file(&folder, "log", &entries);
     let help = said(Command::new(program()).arg("--help"));
-    assert!(help.contains("\nStack: 768 KB.\n"));
+    assert!(help.contains("\nStack: 1,024 KB.\n"));
     let small = |log: &Path| {
         let mut command = Command::new("bash");
-        command.args(["-c", "ulimit -s 768; exec \"$@\"", "bash"]);
+        command.args(["-c", "ulimit -s 1024; exec \"$@\"", "bash"]);
         told(command.args([program().as_path(), &table, log]))
     };
     assert_eq!(small(&log), (text, String::new()));

@@ -326,12 +326,12 @@ fn every_call(bytes: &[u8], words: &[u32]) -> Seen {
     (register, report, figures, group)
 }
 
-/// Every call on a thread with 320 KB of stack, on the smallest table and on
+/// Every call on a thread with 448 KB of stack, on the smallest table and on
 /// one with the largest crosses and expressions.
 #[test]
 fn a_small_stack() {
     let on_thread = |bytes: Vec<u8>, words: Vec<u32>| {
-        let thread = std::thread::Builder::new().stack_size(320 * 1024);
+        let thread = std::thread::Builder::new().stack_size(448 * 1024);
         let calls = move || every_call(&bytes, &words);
         thread.spawn(calls).unwrap().join().unwrap()
     };

@@ -119,7 +119,7 @@ fn say_endings(out: &mut [u8]) {
     );
     say(
         out,
-        b"nothing more is written to standard output.\n\nStack: 768 KB.\n\n",
+        b"nothing more is written to standard output.\n\nStack: 1,024 KB.\n\n",
     );
 }
 
