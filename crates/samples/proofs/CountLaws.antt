@@ -1,7 +1,6 @@
 -- The sample word, the counts and the unknown counts are raised one after the other.
 -- Assumes nothing.
 use mathlib.Core.Path.{_≡_, sym, ap, ap₂, _∙_}
-use mathlib.Core.Bool.{true}
 use mathlib.Core.List.{List, _∷_, _++_}
 use Prim.Native.Nat.{ℕ, _+_, _≤_}
 use native.Mathlib.Numerals.{add-one}
@@ -9,8 +8,9 @@ use native.Mathlib.Omega.{arith}
 use lib.ListN.{length, take, drop, getD, set, length-drop, length-set}
 use lib.Seq.{length-take-le, drop-set-lt}
 use Rattle.arrays.specs.Put.{put}
-use Rattle.arrays.proofs.PutLaws.{length-put, put-cons, put-next, drop-put}
-use Rattle.samples.specs.Adds.{addHits, isSet, isUnknownCode, allRoom}
+use Rattle.arrays.proofs.PutLaws.{put-cons, put-next, drop-put}
+use Rattle.places.specs.Places.{isSet}
+use Rattle.samples.specs.Adds.{addHits, isUnknownCode}
 use Rattle.samples.specs.Writes.{countsAfter, Countable}
 use Rattle.samples.proofs.WriteLaws.{length-addHits}
 
@@ -21,9 +21,6 @@ module _ (k p : ℕ) (flags codes w : List ℕ) (ok : Countable k p w) (hf : k �
 
   same-counts : drop 2 first ≡ drop 2 w
   same-counts = drop-set-lt 2 w 1 (getD w 1 0 + 1) (omega arith)
-
-  pub first-room : allRoom (take k (drop 2 first)) ≡ true
-  first-room = ap (λ (l : List ℕ). allRoom (take k l)) same-counts ∙ ok .counts
 
   pub first-there : 2 + k ≤ length first
   first-there = simp length-set (omega (arith, ok .there))
@@ -44,15 +41,6 @@ module _ (k p : ℕ) (flags codes w : List ℕ) (ok : Countable k p w) (hf : k �
 
     same-unknowns : drop (2 + k) w₂ ≡ drop (2 + k) w
     same-unknowns = ap (drop (2 + k)) is-raised ∙ drop-put 2 k raised first raised-length first-there ∙ drop-set-lt (2 + k) w 1 (getD w 1 0 + 1) (omega arith)
-
-    pub second-room : allRoom (take p (drop (2 + k) w₂)) ≡ true
-    second-room = ap (λ (l : List ℕ). allRoom (take p l)) same-unknowns ∙ ok .unknowns
-
-    pub second-there : 2 + k + p ≤ length w₂
-    second-there =
-        let a : length w₂ ≡ length first = ap length is-raised ∙ length-put 2 raised first (omega (arith, raised-length, first-there)) in
-        let b : length first ≡ length w = simp length-set in
-        omega (arith, ok .there)
 
     pub all-raised : (w₃ : List ℕ) → w₃ ≡ put (2 + k) (addHits isUnknownCode (take p codes) (take p (drop (2 + k) w₂))) w₂ → w₃ ≡ put 1 (countsAfter k p flags codes w) w
     unfolding countsAfter raised

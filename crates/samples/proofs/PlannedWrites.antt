@@ -10,7 +10,7 @@ use lib.ListN.{length, getD, take, drop}
 use lib.Seq.{take-length}
 use Rattle.model.specs.Counters.{counters}
 use Rattle.model.specs.Format.{accepted, tableOf}
-use Rattle.model.specs.Register.{counterTotal, pointTotal, illegalTotal, sampledWords, sampledReport}
+use Rattle.model.specs.Register.{counterTotal, pointTotal, sampledWords, sampledReport}
 use Rattle.model.proofs.Readers.{All}
 use Rattle.arrays.specs.Put.{put}
 use Rattle.arrays.specs.Flat.{kindOf, readingCodes}

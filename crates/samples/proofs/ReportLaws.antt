@@ -3,11 +3,10 @@
 use mathlib.Core.Path.{_≡_, refl, sym, ap, ap₂, _∙_}
 use mathlib.Core.Bool.{Bool, true, false, _||_, cond}
 use mathlib.Core.List.{List, [], _∷_, _++_, map}
-use Prim.Native.Nat.{ℕ, suc, _+_, _≤_, _<_}
+use Prim.Native.Nat.{ℕ, suc, _+_, _≤_}
 use native.Mathlib.Nat.{add-zero}
 use native.Mathlib.Omega.{arith}
-use lib.Dec.{eqb}
-use lib.ListN.{length, getD, length-map}
+use lib.ListN.{length, length-map}
 use borrow.Author.Tests.{ne-eqb}
 use Rattle.model.specs.Lists.{oneOf, asBit}
 use Rattle.model.specs.Table.{Table}
@@ -16,7 +15,7 @@ use Rattle.model.proofs.Readers.{All}
 use Rattle.arrays.specs.Flat.{kindOf, kindsOf, hitFlags}
 use Rattle.places.specs.Places.{isSet, ofKind, placesFrom, hitPlaces, illegalPlaces}
 use Rattle.places.proofs.PlaceLaws.{oneOf-places}
-use Rattle.samples.specs.Adds.{illegalKind, reported, illegalFlags}
+use Rattle.samples.specs.Adds.{reported, illegalFlags}
 use Rattle.model.specs.Sampling.{Stretches, hits}
 use Rattle.model.specs.Register.{illegalTotal, allLengths, runStretches}
 use Rattle.samples.specs.Raises.{hitBits}

@@ -1,6 +1,6 @@
 -- Laws of the search for a place among hits.
 -- Assumes nothing.
-use mathlib.Core.Path.{_≡_, refl, sym, ap, ap₂, _∙_}
+use mathlib.Core.Path.{_≡_, refl, sym, ap, _∙_}
 use mathlib.Core.Bool.{Bool, true, false, _||_}
 use mathlib.Core.List.{List, [], _∷_, map}
 use Prim.Native.Nat.{ℕ, zero, suc, _+_, _≤_, _<_}
@@ -13,7 +13,7 @@ use Rattle.model.proofs.Booleans.{bool-eq}
 use Rattle.model.proofs.Lists.{head-tail}
 use Rattle.places.specs.Places.{ascending}
 use Rattle.places.proofs.PlaceLaws.{ascending-head, ascending-tail, ascending-from, oneOf-below}
-use Rattle.samples.specs.Raises.{hitBits, Passed}
+use Rattle.samples.specs.Raises.{hitBits}
 
 one-of : (x y : ℕ) (ys : List ℕ) → oneOf x (y ∷ ys) ≡ (eqb x y || oneOf x ys)
 unfolding oneOf

@@ -26,7 +26,8 @@ use Rattle.arrays.specs.Put.{put}
 use Rattle.arrays.specs.Flat.{hitFlags, kindOf, kindsOf, readingCode, readingCodes}
 use Rattle.arrays.proofs.PutLaws.{length-put, put-zero, put-at}
 use Rattle.sequences.proofs.Sequences.{length-nextRuns}
-use Rattle.samples.specs.Adds.{addHits, isSet, isUnknownCode, allRoom, reported, illegalKind, illegalFlags}
+use Rattle.places.specs.Places.{isSet}
+use Rattle.samples.specs.Adds.{addHits, isUnknownCode, allRoom, reported, illegalKind, illegalFlags}
 use Rattle.samples.specs.Writes.{runsAfter, flagsAfter, reportOf, countsAfter, Countable}
 
 -- ---- a list in parts

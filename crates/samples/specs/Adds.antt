@@ -10,10 +10,7 @@ use Rattle.model.specs.Lists.{all, pairUp, asBit}
 unfoldable pub addHits : (ℕ → Bool) → List ℕ → List ℕ → List ℕ
 addHits f xs ns = pairUp (λ x n. asBit (f x) + n) xs ns
 
--- a flag that is set, and the code of an unknown reading
-abbrev pub isSet : ℕ → Bool
-isSet x = eqb x 1
-
+-- the code of an unknown reading
 abbrev pub isUnknownCode : ℕ → Bool
 isUnknownCode x = eqb x 8589934593
 

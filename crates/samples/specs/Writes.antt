@@ -10,7 +10,8 @@ use Rattle.model.specs.Counters.{counters}
 use Rattle.model.specs.Lists.{firstFailed}
 use Rattle.model.specs.Register.{sequences, runsOf, nextRuns, allLengths, runStretches, sample, callTests}
 use Rattle.arrays.specs.Flat.{hitFlags, kindsOf}
-use Rattle.samples.specs.Adds.{addHits, isSet, isUnknownCode, allRoom, illegalFlags}
+use Rattle.places.specs.Places.{isSet}
+use Rattle.samples.specs.Adds.{addHits, isUnknownCode, allRoom, illegalFlags}
 
 -- the refusal number of a sample s with report r at the register w, 0 if it is accepted
 abbrev pub sampleRefusal : Table → List ℕ → List ℕ → List ℕ → ℕ
