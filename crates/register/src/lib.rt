@@ -14,7 +14,7 @@ use crate::zeros::run;
 use figures::Figure;
 use figures::GroupFigure;
 use layout::layout_of;
-use samples::write::write_sample;
+use samples::single::write_sample;
 use table::facts;
 ghost use mathlib.Core.Path.{_≡_};
 ghost use Rattle.model.specs.Register as Model;
