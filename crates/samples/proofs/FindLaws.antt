@@ -1,16 +1,16 @@
 -- What the run words tell after a sample, and the flags that follow from them.
 -- Assumes nothing.
-use mathlib.Core.Path.{_≡_, refl, ap, _∙_}
-use mathlib.Core.Bool.{true}
+use mathlib.Core.Path.{_≡_, refl, sym, ap, ap₂, _∙_, fun-ext}
+use mathlib.Core.Bool.{Bool, true}
 use mathlib.Core.List.{List, [], _∷_}
 use Prim.Native.Nat.{ℕ, suc, _+_, _≤_}
 use native.Mathlib.Omega.{arith}
-use lib.ListN.{length, take, drop, length-map}
+use lib.ListN.{length, take, drop}
 use borrow.Author.Tests.{leb-true}
-use Rattle.model.specs.Lists.{sumOf}
+use Rattle.model.specs.Lists.{sumOf, asBit}
 use Rattle.model.specs.Table.{Table, TransitionBin}
-use Rattle.model.specs.Counters.{counters}
-use Rattle.model.specs.Sampling.{runLength}
+use Rattle.model.specs.Counters.{Counter, counters}
+use Rattle.model.specs.Sampling.{runLength, Stretches, hits}
 use Rattle.model.specs.Format.{accepted, tableOf}
 use Rattle.model.specs.Register.{counterTotal, pointTotal, runTotal, wordsNeeded, runsOf, sequences, nextRuns, allLengths, runStretches, longEnough, inWidths}
 use Rattle.model.proofs.Sections.{acceptance, accepted-decodes}
@@ -19,20 +19,32 @@ use Rattle.model.proofs.AccessTransitions.{transitions-access}
 use Rattle.model.proofs.MeasureBounds.{words-few}
 use Rattle.model.proofs.WellFormed.{WellFormed, well-formed}
 use Rattle.arrays.specs.Put.{put}
-use Rattle.arrays.specs.Flat.{hitFlags, kindOf, kindsOf, readingCodes, Readings}
+use Rattle.arrays.specs.Flat.{hitFlags, readingCodes, Readings}
+use Rattle.layout.specs.Places.{layoutOf}
+use Rattle.layout.specs.declared.Layout.{Layout}
+use Rattle.places.specs.Places.{isSet, placesFrom, hitPlaces}
+use Rattle.places.proofs.PlaceLaws.{places-map}
+use Rattle.model.proofs.RunBits.{asBit-eqb}
+use Rattle.model.proofs.RawExact.{many-points}
 use Rattle.arrays.proofs.PutLaws.{part-put}
 use Rattle.samples.specs.Writes.{runsAfter, flagsAfter}
 use Rattle.arrays.proofs.PutLaws.{front-put}
 use Rattle.samples.proofs.WriteLaws.{codes-length, runs-after-length}
 
-pub kinds-length : (t : Table) → length (kindsOf (counters t)) ≡ counterTotal t
-unfolding kindsOf
-kinds-length t = length-map (counters t) kindOf
-
 length-lengths : (bs : List TransitionBin) (runs : List ℕ) → length (allLengths bs runs) ≡ length bs
 unfolding allLengths
 length-lengths [] runs = refl
 length-lengths (b ∷ bs) runs = ap suc (length-lengths bs (drop (sumOf runLength (b .sequences)) runs))
+
+-- the places of what is hit are those of its flags
+pub places-flagged : (t : Table) (s : List ℕ) (m : Stretches) → hitPlaces t s m ≡ placesFrom isSet 0 (hitFlags t s m (counters t))
+unfolding hitPlaces hitFlags
+places-flagged t s m =
+    sym (places-map isSet (λ c. asBit (hits t s m c)) 0 (counters t) ∙ ap (λ (f : Counter → Bool). placesFrom f 0 (counters t)) (fun-ext (λ c. asBit-eqb (hits t s m c))))
+
+pub points-count : (b : List ℕ) → accepted b ≡ true → (l : Layout) → l ≡ layoutOf b → l .«point_count» ≡ pointTotal (tableOf b)
+unfolding layoutOf
+points-count b ok l e = ap (λ (x : Layout). x .«point_count») e ∙ sym (many-points b ok)
 
 -- ---- an accepted table
 
@@ -63,14 +75,19 @@ module _ (b : List ℕ) (ok : accepted b ≡ true) where
     unfolding runsAfter runsOf
     runs-advanced w₁ e = e ∙ ap (λ (n : ℕ). put at (nextRuns (tableOf b) s (sequences (tableOf b)) (take (runTotal (tableOf b)) (drop n w))) w) ea
 
-    pub flags-found : (w₁ lens₀ lens f₀ f : List ℕ) → w₁ ≡ put at (runsAfter (tableOf b) s w) w → 64 ≤ length lens₀
+    -- what the run words after the sample tell, and so what is hit
+    pub places-found : (w₁ lens₀ lens : List ℕ) → w₁ ≡ put at (runsAfter (tableOf b) s w) w → 64 ≤ length lens₀
         → lens ≡ put 0 (allLengths (tableOf b .transitionBins) (take (runTotal (tableOf b)) (drop at w₁))) lens₀
-        → f ≡ put 0 (hitFlags (tableOf b) s (runStretches (take (length (tableOf b .transitionBins)) lens)) (counters (tableOf b))) f₀ → f ≡ put 0 (flagsAfter (tableOf b) s w) f₀
+        → hitPlaces (tableOf b) s (runStretches (take (length (tableOf b .transitionBins)) lens)) ≡ placesFrom isSet 0 (flagsAfter (tableOf b) s w)
     unfolding flagsAfter
-    flags-found w₁ lens₀ lens f₀ f e₁ h e₂ e₃ =
+    places-found w₁ lens₀ lens e₁ h e₂ =
         let bins = tableOf b .transitionBins in
         let there : take (runTotal (tableOf b)) (drop at w₁) ≡ runsAfter (tableOf b) s w =
         ap (λ (l : List ℕ). take (runTotal (tableOf b)) (drop at l)) e₁ ∙ part-put at (runTotal (tableOf b)) (runsAfter (tableOf b) s w) w (runs-after-length (tableOf b) good s w long widths) runs-room in
         let told : take (length bins) lens ≡ allLengths bins (runsAfter (tableOf b) s w) =
         ap (take (length bins)) e₂ ∙ front-put (length bins) (allLengths bins (take (runTotal (tableOf b)) (drop at w₁))) lens₀ (length-lengths bins _) (omega (arith, transitions-few)) ∙ ap (allLengths bins) there in
-        e₃ ∙ ap (λ (ls : List ℕ). put 0 (hitFlags (tableOf b) s (runStretches ls) (counters (tableOf b))) f₀) told
+        ap (λ (ls : List ℕ). hitPlaces (tableOf b) s (runStretches ls)) told ∙ places-flagged (tableOf b) s (runStretches (allLengths bins (runsAfter (tableOf b) s w)))
+
+-- where the sum of the words begins that follow the counts
+pub runs-at : (b : List ℕ) → accepted b ≡ true → (l : Layout) → l ≡ layoutOf b → (k : ℕ) → k ≡ counterTotal (tableOf b) → 2 + k + l .«point_count» ≡ 2 + counterTotal (tableOf b) + pointTotal (tableOf b)
+runs-at b ok l e k ek = ap₂ (λ (i j : ℕ). 2 + i + j) ek (points-count b ok l e)

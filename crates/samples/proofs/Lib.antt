@@ -7,3 +7,4 @@ pub mod WriteLaws
 pub mod RaiseLaws
 pub mod SeekLaws
 pub mod ReportLaws
+pub mod PlannedWrites

@@ -7,17 +7,22 @@ use Prim.Native.Nat.{ℕ, suc, _+_, _≤_, _<_}
 use native.Mathlib.Nat.{add-zero}
 use native.Mathlib.Omega.{arith}
 use lib.Dec.{eqb}
-use lib.ListN.{length, getD}
+use lib.ListN.{length, getD, length-map}
 use borrow.Author.Tests.{ne-eqb}
 use Rattle.model.specs.Lists.{oneOf, asBit}
 use Rattle.model.specs.Table.{Table}
 use Rattle.model.specs.Counters.{Counter, counters}
 use Rattle.model.proofs.Readers.{All}
 use Rattle.arrays.specs.Flat.{kindOf, kindsOf, hitFlags}
-use Rattle.places.specs.Places.{ofKind, placesFrom, illegalPlaces}
+use Rattle.places.specs.Places.{isSet, ofKind, placesFrom, hitPlaces, illegalPlaces}
 use Rattle.places.proofs.PlaceLaws.{oneOf-places}
 use Rattle.samples.specs.Adds.{illegalKind, reported, illegalFlags}
+use Rattle.model.specs.Sampling.{Stretches, hits}
+use Rattle.model.specs.Register.{illegalTotal, allLengths, runStretches}
 use Rattle.samples.specs.Raises.{hitBits}
+use Rattle.samples.specs.Writes.{runsAfter, flagsAfter, reportOf}
+use Rattle.samples.proofs.FindLaws.{places-flagged}
+use Rattle.samples.proofs.WriteLaws.{report-length}
 
 -- places are not below the first
 places-from : {A : Type 0} (f : A → Bool) (n : ℕ) (xs : List A) → All (λ k. n ≤ k) (placesFrom f n xs)
@@ -81,3 +86,28 @@ module _ (f : Counter → Bool) where
 pub report-listed : (t : Table) (f : Counter → Bool) → hitBits (illegalPlaces t) (placesFrom f 0 (counters t)) ≡ illegalFlags (kindsOf (counters t)) (map (λ c. asBit (f c)) (counters t))
 unfolding illegalPlaces kindsOf
 report-listed t f = bits-are f 0 (counters t)
+
+placed : (t : Table) (s : List ℕ) (m : Stretches) → hitPlaces t s m ≡ placesFrom (hits t s m) 0 (counters t)
+unfolding hitPlaces
+placed t s m = refl
+
+hit-map : (ks hs : List ℕ) → map (λ k. asBit (oneOf k hs)) ks ≡ hitBits ks hs
+unfolding hitBits
+hit-map ks hs = refl
+
+-- the report of a sample
+pub report-places : (t : Table) (s w : List ℕ) → hitBits (illegalPlaces t) (placesFrom isSet 0 (flagsAfter t s w)) ≡ reportOf t (flagsAfter t s w)
+unfolding flagsAfter hitFlags
+report-places t s w =
+    let m = runStretches (allLengths (t .transitionBins) (runsAfter t s w)) in
+    ap (hitBits (illegalPlaces t)) (sym (places-flagged t s m)) ∙ flagged m
+  where
+    flagged : (m : Stretches) → hitBits (illegalPlaces t) (hitPlaces t s m) ≡ illegalFlags (kindsOf (counters t)) (map (λ c. asBit (hits t s m c)) (counters t))
+    flagged m = ap (hitBits (illegalPlaces t)) (placed t s m) ∙ report-listed t (hits t s m)
+
+-- as many as the report has words
+pub illegal-many : (t : Table) → length (illegalPlaces t) ≡ illegalTotal t
+illegal-many t = sym (length-map (illegalPlaces t) (λ k. asBit (oneOf k (placesFrom isSet 0 (flagsAfter t [] []))))) ∙ ap length (bits t) ∙ report-length t [] []
+  where
+    bits : (t : Table) → map (λ k. asBit (oneOf k (placesFrom isSet 0 (flagsAfter t [] [])))) (illegalPlaces t) ≡ reportOf t (flagsAfter t [] [])
+    bits t = hit-map (illegalPlaces t) (placesFrom isSet 0 (flagsAfter t [] [])) ∙ report-places t [] []

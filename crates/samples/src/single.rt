@@ -78,13 +78,19 @@ pub fn write_sample(
 {
     let l = layout_of(t);
     let need = 11 * l.range_count + 3 * counters + 10 * points;
-    if (counters <= 1024) & (points <= 4) & (need <= 1024) {
-        write_small(register, report, t, sample);
-        return;
+    if counters <= 1024 {
+        if points <= 4 {
+            if need <= 1024 {
+                write_small(register, report, t, sample);
+                return;
+            }
+        }
     }
-    if (counters <= 4096) & (need <= 8192) {
-        write_medium(register, report, t, sample);
-        return;
+    if counters <= 4096 {
+        if need <= 8192 {
+            write_medium(register, report, t, sample);
+            return;
+        }
     }
     write_largest(register, report, t, sample);
 }
