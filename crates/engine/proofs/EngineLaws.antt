@@ -103,7 +103,8 @@ module _ (t : Table) (s : List ℕ) (m : Stretches) (h₀ h₁ h₂ : List ℕ) 
       let xs = placesFrom (hits t s m) 0 (allPointCounters t) in
       let ys = placesFrom (hits t s m) base (allCrossCounters t) in
       let whole : hitPlaces t s m ≡ xs ++ ys = hits-parts t s m ∙ ap (λ (b : ℕ). xs ++ placesFrom (hits t s m) b (allCrossCounters t)) (sym eb) in
-      let few = places-few (hits t s m) base (allCrossCounters t) in (
+      let few = places-few (hits t s m) base (allCrossCounters t) in
+      (
         omega (arith, ap length whole ∙ length-append xs ys),
         tail-back k ys h₁ h₂ (omega (arith, long, points-few, counters-many t)) kept e₂
             ∙ ap₂ (λ (i : ℕ) (z : List ℕ). put i ys z) (ek ∙ sym (zero-add (length xs))) e₁

@@ -35,15 +35,7 @@ fn put_crossed(
     let l = layout_of(t);
     let at = 81 + 514 * l.point_count;
     let c = element(lists, at) as usize;
-    put_cross_hits(
-        hits,
-        &mut list,
-        t,
-        sample,
-        found,
-        &lists[at + 1 + c..],
-        base,
-    )
+    put_cross_hits(hits, &mut list, t, sample, found, &lists[at + 1 + c..], base)
 }
 
 // Of the points and then of the crosses.

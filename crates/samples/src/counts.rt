@@ -12,13 +12,7 @@ ghost use Rattle.places.specs.Places.{ascending, isSet, placesFrom};
 ghost use Rattle.samples.specs.Writes.{countsAfter, Countable};
 
 // One sample more; the counts at the places and the unknown counts rise.
-pub fn raise_counts(
-    register: &mut [u32],
-    hits: &[u16],
-    readings: &[u64],
-    counters: usize,
-    points: usize,
-)
+pub fn raise_counts(register: &mut [u32], hits: &[u16], readings: &[u64], counters: usize, points: usize)
     requires { ⌜ Countable counters points (now register) × (points ≤ length (now readings)) × (ascending 0 (now hits) ≡ true) × All (λ x. x < counters) (now hits) ⌝ }
     ensures { λ _. ⌜ ((fs : List ℕ) → length fs ≡ counters → now (hits .entry) ≡ placesFrom isSet 0 fs → now (register .exit) ≡ put 1 (countsAfter counters points fs (now (readings .entry)) (now (register .entry))) (now (register .entry))) ⌝ }
 {
