@@ -1,20 +1,14 @@
 -- What is worked out of a table once: what it tells of the table, and the room that it needs.
 -- Assumes nothing.
-use mathlib.Core.Path.{_≡_, sym, ap, _∙_}
+use mathlib.Core.Path.{_≡_, ap, _∙_}
 use mathlib.Core.Bool.{true}
-use mathlib.Core.List.{List, []}
+use mathlib.Core.List.{List}
 use Prim.Native.Nat.{ℕ, _+_, _*_, _≤_}
 use native.Mathlib.Omega.{arith}
-use lib.ListN.{length, getD, length-map}
-use Rattle.model.specs.Lists.{oneOf, asBit}
-use Rattle.model.specs.Table.{Table}
-use Rattle.model.specs.Counters.{counters}
-use Rattle.model.specs.Sampling.{hits}
+use lib.ListN.{getD}
 use Rattle.model.specs.Format.{accepted, decode, decoded, tableOf}
-use Rattle.model.specs.Register.{pointTotal, counterTotal, illegalTotal, allLengths, runStretches}
+use Rattle.model.specs.Register.{pointTotal, counterTotal, illegalTotal}
 use Rattle.model.proofs.RawExact.{few-points}
-use Rattle.arrays.specs.Flat.{hitFlags}
-use Rattle.places.specs.Places.{placesFrom, illegalPlaces}
 use Rattle.layout.specs.Places.{layoutOf}
 use Rattle.layout.specs.declared.Layout.{Layout}
 use Rattle.lists.specs.Lists.{illegalsAt, listsNeed}
@@ -26,19 +20,7 @@ use Rattle.pieces.specs.Plan.{planNeed}
 use Rattle.pieces.proofs.PlanTurns.{plan-need}
 use Rattle.sampling.specs.Index.{Roomy}
 use Rattle.sampling.proofs.Joins.{largest-room}
-use Rattle.samples.specs.Raises.{hitBits}
-use Rattle.samples.specs.Writes.{runsAfter, flagsAfter}
-use Rattle.samples.proofs.WriteLaws.{report-length}
-use Rattle.samples.proofs.ReportLaws.{report-listed}
-
--- a report has a word for each illegal counter
-illegals-many : (t : Table) → length (illegalPlaces t) ≡ illegalTotal t
-unfolding flagsAfter hitFlags hitBits
-illegals-many t =
-    let m = runStretches (allLengths (t .transitionBins) (runsAfter t [] [])) in
-    sym (length-map (illegalPlaces t) (λ k. asBit (oneOf k (placesFrom (hits t [] m) 0 (counters t)))))
-    ∙ ap length (report-listed t (hits t [] m))
-    ∙ report-length t [] []
+use Rattle.samples.proofs.ReportLaws.{illegal-many}
 
 -- the points by the table's bytes, the illegal counters by the lists
 pub counted : (s plan lists : List ℕ) → decode s ≡ decoded (tableOf s) → Lists.Ready (tableOf s) plan lists → (l : Layout) → l ≡ layoutOf s → (k : ℕ) → k ≡ getD lists (81 + 514 * l .«point_count») 0
@@ -46,7 +28,7 @@ pub counted : (s plan lists : List ℕ) → decode s ≡ decoded (tableOf s) →
 counted s plan lists known h l e k g =
     let n = count-points s (known-accepted s known) l e in
     let at : 81 + 514 * l .«point_count» ≡ illegalsAt (pointTotal (tableOf s)) = omega (arith, n) in
-    (n, g ∙ ap (λ (i : ℕ). getD lists i 0) at ∙ h .planned .illegals ∙ illegals-many (tableOf s))
+    (n, g ∙ ap (λ (i : ℕ). getD lists i 0) at ∙ h .planned .illegals ∙ illegal-many (tableOf s))
 
 -- ---- the size classes
 

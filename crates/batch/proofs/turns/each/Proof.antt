@@ -143,16 +143,7 @@ add-k c =
     omega (arith, going-room _ v _ _ _ _ _ _ _ (l .inv .0) h _ cut _ _ _ d (c .if1 .left) (x .result) (n .1), l .inv .2, c .before .before .before .before .before .before .before .before .before .before .before .before .before .before .before .before .before .before .before .before .before .before .before .before .good .1 .0)
 
 add-taken : tie.Need-add-taken Inv-loop μ-loop
-add-taken c =
-    let p = c .before .before .before .before .before .before .before .before .before .before .before .before .before .before .before .before .before .before .before .before .before .before .before .before .pre in
-    let x = c .before .before .before .before .before .before .before .before .before .before .before .before .before .before .before .element in
-    let y = c .before .before .before .before .before .before .before .before .before .before .before .before .before .before .before .before .layout-of in
-    let n = counted _ _ _ (p .0 .known) (p .1 .planned) (y .result) (y .ensures .0) (x .result) (x .ensures) in
-    let v = c .before .before .before .before .before .before .before .before .before .before .before .before .before .before .before .before .before .before .before .before .before .before .before .before .args .s .now in
-    let l = c .before .before .before .before .before .before .before .before .before .before .before .before .before .before .loop in
-    let h = c .before .before .before .before .before .before .before .before .before .before .before .before .before .loop-test .taken in
-    let cut = cut-for (c .before .before .before .before .before .before .before .before .before .before .before .before .before .before .before .before .before .before .before .before .before .before .before .before .args .t .now) v _ (n .0) _ _ h (c .before .before .before .before .before .before .before .before .before .before .before .before .end-of .ensures) in
-    omega (arith, l .inv .0 .few, h, c .before .before .before .before .before .before .before .before .before .before .before .before .before .before .before .before .before .before .before .before .before .before .before .before .good .1 .1 .1 .0)
+add-taken c = omega (arith, c .before .before .before .before .before .before .before .before .before .before .before .before .before .before .loop .inv .0 .few, c .before .before .before .before .before .before .before .before .before .before .before .before .before .loop-test .taken, c .before .before .before .before .before .before .before .before .before .before .before .before .before .before .before .before .before .before .before .before .before .before .before .before .good .1 .1 .1 .0)
 
 loop-less : tie.Need-loop-less Inv-loop μ-loop
 loop-less c =
