@@ -1,5 +1,6 @@
 pub mod SampledWords
 pub mod Keeps
 pub mod TurnLaws
+pub mod PreparedLaws
 pub mod TopLaws
 pub mod Listed

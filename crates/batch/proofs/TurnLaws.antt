@@ -13,18 +13,16 @@ use borrow.Author.Tests.{leb-true, leb-false}
 use Rattle.model.specs.Lists.{firstFailed}
 use Rattle.model.specs.Table.{Table}
 use Rattle.model.specs.Format.{Outcome, decode, decoded, tableOf}
-use Rattle.model.specs.Register.{wordsNeeded, illegalTotal, longEnough, consistent, registerTests, sampleTests, callTests, sampledWords, sampledReport, sample, Effect, accept, perform, onTable, onOutcome, call}
+use Rattle.model.specs.Register.{pointTotal, wordsNeeded, illegalTotal, longEnough, consistent, registerTests, sampleTests, callTests, sampledWords, sampledReport, sample, Effect, accept, perform, onTable, onOutcome, call}
 use Rattle.model.proofs.Lists.{first-passed}
 use Rattle.arrays.proofs.PutLaws.{put-zero}
-use Rattle.table.specs.declared.answer.Facts.{Facts}
 use Rattle.register.specs.Refusals.{ownRefusal}
 use Rattle.register.proofs.SampleLaws.{own-by}
 use Rattle.samples.specs.Writes.{reportOf, flagsAfter}
 use Rattle.samples.proofs.Passed.{all-passed}
 use Rattle.samples.proofs.WriteLaws.{report-length, report-exact}
-use Rattle.batch.specs.declared.turns.Slot.{Slot}
 use Rattle.batch.specs.Batch.{Batch, ended, sampleSize, andThen, inTurn}
-use Rattle.batch.specs.Turns.{Ready, Done, DoneAt, callIn, Took, turns, endOf, ahead}
+use Rattle.batch.specs.Turns.{Ready, Done, Took, turns, endOf, ahead}
 use Rattle.batch.proofs.Keeps.{tests-on, keeps}
 
 -- ---- one sample on a register that passes the tests 7 and 8
@@ -64,15 +62,15 @@ module _ (s : List ℕ) (t : Table) (known : decode s ≡ decoded t) (w v r : Li
         let x = reportOf t (flagsAfter t v w) in
         omega (arith, ap length report-is, length-append x (drop (length x) r), report-length t v w)
 
-module _ (s : List ℕ) (f : Facts) (w : List ℕ) (ready : Ready s f w) (v r : List ℕ) where
+module _ (s w : List ℕ) (ready : Ready s w) (v r : List ℕ) where
   abbrev t : Table
   t = tableOf s
 
-  module _ (n : ℕ) (e : n ≡ ownRefusal s f v r (getD w 0 0) (getD w 1 0)) where
+  module _ (points illegals : ℕ) (ep : points ≡ pointTotal t) (ei : illegals ≡ illegalTotal t) (n : ℕ) (e : n ≡ ownRefusal s points illegals v r (getD w 0 0) (getD w 1 0)) where
     pub own-is : n ≡ firstFailed (callTests t w (sample v r))
     unfolding callTests
     own-is =
-        e ∙ own-by s f v r t (ready .known) (ready .describes) (getD w 0 0) (getD w 1 0)
+        e ∙ own-by s v r t (ready .known) points illegals ep ei (getD w 0 0) (getD w 1 0)
         ∙ sym (tests-on t w (sampleTests t v r (eqb (getD w 0 0) 1) (getD w 1 0)) (ready .passes))
 
     effect-is : call s w (sample v r) ≡ perform n t w (sample v r)
@@ -96,27 +94,25 @@ module _ (s : List ℕ) (f : Facts) (w : List ℕ) (ready : Ready s f w) (v r : 
         }
 
   module _ (z : call s w (sample v r) .response .number ≡ 0) where
-    pub ready-after : Ready s f (call s w (sample v r) .words)
+    pub ready-after : Ready s (call s w (sample v r) .words)
     unfolding accept
     ready-after = record {
       known = ready .known;
-      describes = ready .describes;
-      few = ready .few;
       passes = ap (λ (x : Effect). firstFailed (registerTests t (x .words))) (taken-is s t (ready .known) w v r z) ∙ keeps t v w r (all-pass s t (ready .known) w v r z);
     }
 
-    pub room-for : f .illegals ≤ length r
-    room-for = omega (arith, all-passed t v w r (all-pass s t (ready .known) w v r z) .reported, ready .describes .illegals)
+    pub room-for : illegalTotal t ≤ length r
+    room-for = all-passed t v w r (all-pass s t (ready .known) w v r z) .reported
 
-    pub room-after : f .illegals ≤ length (call s w (sample v r) .response .report)
-    room-after = omega (arith, ready .describes .illegals, report-long s t (ready .known) w v r z)
+    pub room-after : illegalTotal t ≤ length (call s w (sample v r) .response .report)
+    room-after = report-long s t (ready .known) w v r z
 
 long-two : (t : Table) (w : List ℕ) → longEnough t w ≡ true → 2 ≤ length w
 unfolding wordsNeeded
 long-two t w e = omega (arith, leb-true (wordsNeeded t) (length w) e)
 
-pub two-words : (s : List ℕ) (f : Facts) (w : List ℕ) → Ready s f w → 2 ≤ length w
-two-words s f w ready = long-two (tableOf s) w (first-passed (longEnough (tableOf s) w) 7 ((consistent (tableOf s) w, 8) ∷ []) (omega arith) (ready .passes) .0)
+pub two-words : (s w : List ℕ) → Ready s w → 2 ≤ length w
+two-words s w ready = long-two (tableOf s) w (first-passed (longEnough (tableOf s) w) 7 ((consistent (tableOf s) w, 8) ∷ []) (omega arith) (ready .passes) .0)
 
 -- ---- more turns than there are samples change nothing
 
@@ -138,6 +134,11 @@ unfolding turns inTurn
 turns-none s t w [] r e = refl
 turns-none s t w (x ∷ v) r e = absurd (omega arith)
 
+pub took-none : (s : List ℕ) (t : Table) (w v r : List ℕ) → length v ≡ 0 → Took (turns s t w v r) (record { number = 0; taken = 0 }) w r
+took-none s t w v r e =
+    let b = turns-none s t w v r e in
+    record { number = ap (λ (x : Batch). x .number) (sym b); taken = ap (λ (x : Batch). x .taken) (sym b); words = ap (λ (x : Batch). x .words) (sym b); reports = ap (λ (x : Batch). x .reports) (sym b) }
+
 pub turns-one : (s : List ℕ) (t : Table) (w v r : List ℕ) → 0 < length v
     → (let e = call s w (sample (take (sampleSize t) v) r) in
     turns s t w v r ≡ andThen (illegalTotal t) (e .response .number) e (turns s t (e .words) (drop (sampleSize t) v) (drop (illegalTotal t) (e .response .report))))
@@ -155,14 +156,23 @@ then-refused k (suc n) e b z = refl
 
 -- ---- a sample in the midst of the samples' words, and its report in the midst of the reports
 
+-- a sample's effect, where its report stands after the reports' words p
+pub record DoneAt (e : Effect) (p : List ℕ) (n : ℕ) (w r : List ℕ) : Type 0 where
+  pub number : n ≡ e .response .number
+  pub words : w ≡ e .words
+  pub reports : r ≡ p ++ e .response .report
+
+-- the call of the sample in the words a to e - 1, with the reports' words from k on
+abbrev callIn : List ℕ → List ℕ → List ℕ → List ℕ → ℕ → ℕ → ℕ → Effect
+callIn s w v r a e k = call s w (sample (take (e - a) (drop a v)) (drop k r))
+
 -- the part of the reports that was lent has come back
-pub part-done : (s w v r : List ℕ) (q : Slot) (n : ℕ) (w′ p r′ : List ℕ) → q .report ≤ length r
-    → Done (call s w (sample (take (q .end - q .start) (drop (q .start) v)) (take (length r - q .report) (drop (q .report) r)))) n w′ p
-    → r′ ≡ take (q .report) r ++ (p ++ drop (length r - q .report) (drop (q .report) r)) → DoneAt (callIn s w v r q) (take (q .report) r) n w′ r′
-part-done s w v r q n w′ p r′ h d g =
-    let k = q .report in
+pub part-done : (s w v r : List ℕ) (a e k n : ℕ) (w′ p r′ : List ℕ) → k ≤ length r
+    → Done (call s w (sample (take (e - a) (drop a v)) (take (length r - k) (drop k r)))) n w′ p
+    → r′ ≡ take k r ++ (p ++ drop (length r - k) (drop k r)) → DoneAt (callIn s w v r a e k) (take k r) n w′ r′
+part-done s w v r a e k n w′ p r′ h d g =
     let l : length (drop k r) ≤ length r - k = omega (arith, length-drop k r) in
-    let x : Done (callIn s w v r q) n w′ p = rw (take-all (length r - k) (drop k r) l) at d in
+    let x : Done (callIn s w v r a e k) n w′ p = rw (take-all (length r - k) (drop k r) l) at d in
     record {
       number = x .number;
       words = x .words;
@@ -199,22 +209,21 @@ cut-at v size a e z h g = go (leb size (length v - a)) refl g
           rest = drop-of-length-le v {i = e} (omega arith) ∙ sym (drop-of-length-le (drop a v) {i = size} (omega arith));
         }
 
-pub cut-for : (s : List ℕ) (f : Facts) (w v : List ℕ) → Ready s f w → (a e : ℕ) → a < length v → e ≡ endOf (4 + 2 * f .points) a (length v) → Cut v (sampleSize (tableOf s)) a e
-cut-for s f w v h a e l g =
-    cut-at v (sampleSize (tableOf s)) a e (omega arith) l (g ∙ ap (λ (n : ℕ). endOf (4 + 2 * n) a (length v)) (h .describes .points))
+pub cut-for : (s v : List ℕ) (points : ℕ) → points ≡ pointTotal (tableOf s) → (a e : ℕ) → a < length v → e ≡ endOf (4 + 2 * points) a (length v) → Cut v (sampleSize (tableOf s)) a e
+cut-for s v points h a e l g = cut-at v (sampleSize (tableOf s)) a e (omega arith) l (g ∙ ap (λ (n : ℕ). endOf (4 + 2 * n) a (length v)) h)
 
 -- ---- the loop
 
 -- a words were read, k words of the reports are written, and what is left gives the whole
-pub record Going (s : List ℕ) (f : Facts) (v w₀ r₀ w r : List ℕ) (a k taken : ℕ) : Type 0 where
-  pub ready : Ready s f w
+pub record Going (s v w₀ r₀ w r : List ℕ) (a k taken : ℕ) : Type 0 where
+  pub ready : Ready s w
   pub read : a ≤ length v
   pub written : k ≤ length r
   pub few : taken ≤ a
   pub whole : turns s (tableOf s) w₀ v r₀ ≡ ahead taken (take k r) (turns s (tableOf s) w (drop a v) (drop k r))
 
-pub going-start : (s : List ℕ) (f : Facts) (v w r : List ℕ) → Ready s f w → Going s f v w r w r 0 0 0
-going-start s f v w r h = record {
+pub going-start : (s v w r : List ℕ) → Ready s w → Going s v w r w r 0 0 0
+going-start s v w r h = record {
   ready = h;
   read = omega arith;
   written = omega arith;
@@ -224,7 +233,7 @@ going-start s f v w r h = record {
       ap (λ (n : ℕ). record { number = b .number; taken = n; words = b .words; reports = b .reports }) (sym (zero-add (b .taken)));
 }
 
-module _ (s : List ℕ) (f : Facts) (v w₀ r₀ w r : List ℕ) (a k taken : ℕ) (g : Going s f v w₀ r₀ w r a k taken) where
+module _ (s v w₀ r₀ w r : List ℕ) (a k taken : ℕ) (g : Going s v w₀ r₀ w r a k taken) where
   pub going-end : length v ≤ a → Took (turns s (tableOf s) w₀ v r₀) (record { number = 0; taken = taken }) w r
   going-end h =
       let l : length (drop a v) ≡ 0 = omega (arith, length-drop a v) in
@@ -236,12 +245,12 @@ module _ (s : List ℕ) (f : Facts) (v w₀ r₀ w r : List ℕ) (a k taken : �
         reports = sym (ap (λ (b : Batch). b .reports) e ∙ take-append-drop k r);
       }
 
-  module _ (h : a < length v) (e : ℕ) (c : Cut v (sampleSize (tableOf s)) a e) (n : ℕ) (w′ r′ : List ℕ) (d : DoneAt (callIn s w v r (record { start = a; end = e; report = k })) (take k r) n w′ r′) where
+  module _ (h : a < length v) (e : ℕ) (c : Cut v (sampleSize (tableOf s)) a e) (n : ℕ) (w′ r′ : List ℕ) (d : DoneAt (callIn s w v r a e k) (take k r) n w′ r′) where
     abbrev ill : ℕ
     ill = illegalTotal (tableOf s)
 
     abbrev x : Effect
-    x = callIn s w v r (record { start = a; end = e; report = k })
+    x = callIn s w v r a e k
 
     abbrev left : Batch
     left = turns s (tableOf s) (x .words) (drop e v) (drop ill (x .response .report))
@@ -264,12 +273,12 @@ module _ (s : List ℕ) (f : Facts) (v w₀ r₀ w r : List ℕ) (a k taken : �
           reports = d .reports ∙ ap (λ (b : Batch). b .reports) (sym q);
         }
 
-    module _ (z : n ≡ 0) where
+    module _ (z : n ≡ 0) (illegals : ℕ) (i : illegals ≡ illegalTotal (tableOf s)) where
       zero-number : x .response .number ≡ 0
       zero-number = sym (d .number) ∙ z
 
-      pub going-room : k + f .illegals ≤ length r
-      going-room = omega (arith, room-for s f w (g .ready) _ _ zero-number, length-drop k r, g .written)
+      pub going-room : k + illegals ≤ length r
+      going-room = omega (arith, i, room-for s w (g .ready) _ _ zero-number, length-drop k r, g .written)
 
       taken-part : take (k + ill) r′ ≡ take k r ++ take ill (x .response .report)
       taken-part =
@@ -281,14 +290,13 @@ module _ (s : List ℕ) (f : Facts) (v w₀ r₀ w r : List ℕ) (a k taken : �
           let l : k + ill ≡ length (take k r) + ill = omega (arith, length-take-le k r (g .written)) in
           ap₂ drop l (d .reports) ∙ drop-append-add (take k r) (x .response .report) ill
 
-      pub going-on : Going s f v w₀ r₀ w′ r′ e (k + f .illegals) (taken + 1)
+      pub going-on : Going s v w₀ r₀ w′ r′ e (k + illegals) (taken + 1)
       going-on = record {
-        ready = subst (λ (l : List ℕ). Ready s f l) (sym (d .words)) (ready-after s f w (g .ready) _ _ zero-number);
+        ready = subst (Ready s) (sym (d .words)) (ready-after s w (g .ready) _ _ zero-number);
         read = c .within;
-        written = omega (arith, room-after s f w (g .ready) _ _ zero-number, ap length (d .reports), length-append (take k r) (x .response .report), length-take-le k r (g .written));
+        written = omega (arith, i, room-after s w (g .ready) _ _ zero-number, ap length (d .reports), length-append (take k r) (x .response .report), length-take-le k r (g .written));
         few = omega (arith, c .after, g .few);
         whole =
-            let i = g .ready .describes .illegals in
             let m : taken + suc (left .taken) ≡ (taken + 1) + left .taken = omega arith in
             whole-more
             ∙ ap (λ (y : ℕ). ahead taken (take k r) (andThen ill y x left)) z

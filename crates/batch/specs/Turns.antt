@@ -5,46 +5,30 @@ use mathlib.Core.Path.{_≡_}
 use mathlib.Core.Bool.{cond}
 use mathlib.Core.List.{List, _++_}
 use lib.Dec.{leb}
-use lib.ListN.{length, take, drop}
+use lib.ListN.{length}
 use Rattle.model.specs.Lists.{firstFailed}
 use Rattle.model.specs.Table.{Table}
 use Rattle.model.specs.Format.{decode, decoded, tableOf}
-use Rattle.model.specs.Register.{Effect, registerTests, sample, call}
-use Rattle.table.specs.declared.answer.Facts.{Facts}
-use Rattle.table.specs.Check.{Few}
-use Rattle.register.specs.Refusals.{Describes}
+use Rattle.model.specs.Register.{counterTotal, Effect, registerTests}
+use Rattle.lists.specs.Lists as Lists
 use Rattle.batch.specs.declared.Taken.{Taken}
-use Rattle.batch.specs.declared.turns.Slot.{Slot}
 use Rattle.batch.specs.Batch.{Batch, inTurn}
 
--- the table with the bytes s is accepted, f are its facts, and the register w passes the tests 7 and 8
-pub record Ready (s : List ℕ) (f : Facts) (w : List ℕ) : Type 0 where
+-- the table with the bytes s is accepted, and the register w passes the tests 7 and 8
+pub record Ready (s w : List ℕ) : Type 0 where
   pub known : decode s ≡ decoded (tableOf s)
-  pub describes : Describes f (tableOf s)
-  pub few : Few f
   pub passes : firstFailed (registerTests (tableOf s) w) ≡ 0
+
+-- what is needed of the table is worked out, and there is room for the places that a sample hits
+pub record Prepared (s plan lists : List ℕ) (hits : ℕ) : Type 0 where
+  pub planned : Lists.Ready (tableOf s) plan lists
+  pub room : counterTotal (tableOf s) + 256 ≤ hits
 
 -- a sample's effect: its number, the words and the report
 pub record Done (e : Effect) (n : ℕ) (w r : List ℕ) : Type 0 where
   pub number : n ≡ e .response .number
   pub words : w ≡ e .words
   pub report : r ≡ e .response .report
-
--- the same for a sample whose report stands after the reports' words p
-pub record DoneAt (e : Effect) (p : List ℕ) (n : ℕ) (w r : List ℕ) : Type 0 where
-  pub number : n ≡ e .response .number
-  pub words : w ≡ e .words
-  pub reports : r ≡ p ++ e .response .report
-
--- the slot stands within the samples' words v and the reports r
-pub record Within (p : Slot) (v r : List ℕ) : Type 0 where
-  pub ordered : p .start ≤ p .end
-  pub words : p .end ≤ length v
-  pub room : p .report ≤ length r
-
--- the call of the sample in a slot
-abbrev pub callIn : List ℕ → List ℕ → List ℕ → List ℕ → Slot → Effect
-callIn s w v r p = call s w (sample (take (p .end - p .start) (drop (p .start) v)) (drop (p .report) r))
 
 -- the answer and what is written are the batch's
 pub record Took (b : Batch) (a : Taken) (w r : List ℕ) : Type 0 where

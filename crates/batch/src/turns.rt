@@ -1,45 +1,45 @@
-// The samples of a batch, in turn, on a table and a register that passed their tests.
+// The samples of a batch, in turn, on a table and a register that passed their tests. What is needed of the table is worked out once.
 use crate::Taken;
+use arrays::element;
+use layout::layout_of;
 use register::refusals::own_refusal;
-use samples::single::write_sample;
+use samples::single::prepare;
+use samples::write::write_planned;
 use table::answer::Facts;
 ghost use mathlib.Core.Path.{_≡_};
 ghost use Prim.Native.Nat.{_≤_};
-ghost use lib.ListN.{take};
+ghost use lib.ListN.{length};
 ghost use Rattle.model.specs.Format.{tableOf};
 ghost use Rattle.model.specs.Register.{call, sample};
-ghost use Rattle.batch.specs.Turns.{Ready, Done, DoneAt, Within, callIn, Took, turns, endOf};
+ghost use Rattle.table.specs.Check.{Few};
+ghost use Rattle.register.specs.Refusals.{Describes};
+ghost use Rattle.pieces.specs.Plan.{planNeed};
+ghost use Rattle.sampling.specs.Index.{Roomy};
+ghost use Rattle.lists.specs.Lists.{listsNeed};
+ghost use Rattle.batch.specs.Turns.{Ready, Prepared, Done, Took, turns, endOf};
 
 // One sample: its own tests, and what it writes.
-fn one(register: &mut [u32], report: &mut [u32], t: &[u8], s: &[u32], f: Facts) -> u32
-    requires { ⌜ Ready (now t) f (now register) ⌝ }
+fn one(
+    register: &mut [u32],
+    report: &mut [u32],
+    t: &[u8],
+    s: &[u32],
+    plan: &[u64],
+    lists: &[u16],
+    hits: &mut [u16],
+) -> u32
+    requires { ⌜ Ready (now t) (now register) × Prepared (now t) (now plan) (now lists) (length (now hits)) ⌝ }
     ensures { λ r. ⌜ Done (call (now (t .entry)) (now (register .entry)) (sample (now (s .entry)) (now (report .entry)))) r (now (register .exit)) (now (report .exit)) ⌝ }
 {
-    let number = own_refusal(t, s, report, register[0], register[1], f);
+    let l = layout_of(t);
+    let points = l.point_count;
+    let illegals = element(lists, 81 + 514 * points) as usize;
+    let number = own_refusal(t, s, report, register[0], register[1], points, illegals);
     if number != 0 {
         return number;
     }
-    write_sample(register, report, t, s, f.counters, f.points);
+    write_planned(register, report, t, s, plan, lists, hits);
     0
-}
-
-// Where one sample stands: in the words start to end - 1, with the reports' words from report on.
-pub struct Slot {
-    pub start: usize,
-    pub end: usize,
-    pub report: usize,
-}
-
-// The sample that stands there.
-fn part(register: &mut [u32], reports: &mut [u32], t: &[u8], s: &[u32], f: Facts, slot: Slot) -> u32
-    requires { ⌜ Ready (now t) f (now register) ⌝ }
-    requires { ⌜ Within slot (now s) (now reports) ⌝ }
-    ensures { λ r. ⌜ DoneAt (callIn (now (t .entry)) (now (register .entry)) (now (s .entry)) (now (reports .entry)) slot) (take (slot .report) (now (reports .entry))) r (now (register .exit)) (now (reports .exit)) ⌝ }
-{
-    let start = slot.start;
-    let end = slot.end;
-    let report = slot.report;
-    one(register, &mut reports[report..], t, &s[start..end], f)
 }
 
 // Where the sample that begins at a ends: the last one where the words end.
@@ -50,30 +50,29 @@ fn end_of(size: usize, a: usize, n: usize) -> usize
     if size <= n - a { a + size } else { n }
 }
 
-// All samples, in turn.
-pub fn all(register: &mut [u32], reports: &mut [u32], t: &[u8], s: &[u32], f: Facts) -> Taken
-    requires { ⌜ Ready (now t) f (now register) ⌝ }
+// All samples, in turn, by what was worked out of the table. hits is scratch.
+fn each(
+    register: &mut [u32],
+    reports: &mut [u32],
+    t: &[u8],
+    s: &[u32],
+    plan: &[u64],
+    lists: &[u16],
+    hits: &mut [u16],
+) -> Taken
+    requires { ⌜ Ready (now t) (now register) × Prepared (now t) (now plan) (now lists) (length (now hits)) ⌝ }
     ensures { λ r. ⌜ Took (turns (now (t .entry)) (tableOf (now (t .entry))) (now (register .entry)) (now (s .entry)) (now (reports .entry))) r (now (register .exit)) (now (reports .exit)) ⌝ }
 {
-    let size = 4 + 2 * f.points;
-    let illegals = f.illegals;
+    let l = layout_of(t);
+    let points = l.point_count;
+    let size = 4 + 2 * points;
+    let illegals = element(lists, 81 + 514 * points) as usize;
     let mut a = 0;
     let mut k = 0;
     let mut taken = 0;
     while a < s.len() {
         let e = end_of(size, a, s.len());
-        let number = part(
-            register,
-            reports,
-            t,
-            s,
-            f,
-            Slot {
-                start: a,
-                end: e,
-                report: k,
-            },
-        );
+        let number = one(register, &mut reports[k..], t, &s[a..e], plan, lists, hits);
         if number != 0 {
             return Taken {
                 number: number,
@@ -88,4 +87,71 @@ pub fn all(register: &mut [u32], reports: &mut [u32], t: &[u8], s: &[u32], f: Fa
         number: 0,
         taken: taken,
     }
+}
+
+// Size classes: a small table does not pay for the clearing of large arrays.
+fn small(register: &mut [u32], reports: &mut [u32], t: &[u8], s: &[u32]) -> Taken
+    requires { ⌜ Ready (now t) (now register) × Roomy (tableOf (now t)) 1024 × (planNeed (tableOf (now t)) ≤ 1024) × (listsNeed (tableOf (now t)) ≤ 4202) ⌝ }
+    ensures { λ r. ⌜ Took (turns (now (t .entry)) (tableOf (now (t .entry))) (now (register .entry)) (now (s .entry)) (now (reports .entry))) r (now (register .exit)) (now (reports .exit)) ⌝ }
+{
+    let mut plan = [0u64; 1024];
+    let mut lists = [0u16; 4202];
+    let mut kinds = [0u8; 1024];
+    let mut hits = [0u16; 1280];
+    prepare(&mut plan, &mut lists, &mut kinds, t);
+    each(register, reports, t, s, &plan, &lists, &mut hits)
+}
+
+fn medium(register: &mut [u32], reports: &mut [u32], t: &[u8], s: &[u32]) -> Taken
+    requires { ⌜ Ready (now t) (now register) × Roomy (tableOf (now t)) 4096 × (planNeed (tableOf (now t)) ≤ 8192) × (listsNeed (tableOf (now t)) ≤ 16514) ⌝ }
+    ensures { λ r. ⌜ Took (turns (now (t .entry)) (tableOf (now (t .entry))) (now (register .entry)) (now (s .entry)) (now (reports .entry))) r (now (register .exit)) (now (reports .exit)) ⌝ }
+{
+    let mut plan = [0u64; 8192];
+    let mut lists = [0u16; 16514];
+    let mut kinds = [0u8; 4096];
+    let mut hits = [0u16; 4352];
+    prepare(&mut plan, &mut lists, &mut kinds, t);
+    each(register, reports, t, s, &plan, &lists, &mut hits)
+}
+
+fn largest(register: &mut [u32], reports: &mut [u32], t: &[u8], s: &[u32]) -> Taken
+    requires { ⌜ Ready (now t) (now register) ⌝ }
+    ensures { λ r. ⌜ Took (turns (now (t .entry)) (tableOf (now (t .entry))) (now (register .entry)) (now (s .entry)) (now (reports .entry))) r (now (register .exit)) (now (reports .exit)) ⌝ }
+{
+    let mut plan = [0u64; 23712];
+    let mut lists = [0u16; 28930];
+    let mut kinds = [0u8; 12416];
+    let mut hits = [0u16; 12672];
+    prepare(&mut plan, &mut lists, &mut kinds, t);
+    each(register, reports, t, s, &plan, &lists, &mut hits)
+}
+
+// All samples, in turn: f are the table's facts. Without samples nothing is worked out.
+pub fn all(register: &mut [u32], reports: &mut [u32], t: &[u8], s: &[u32], f: Facts) -> Taken
+    requires { ⌜ Ready (now t) (now register) × Describes f (tableOf (now t)) × Few f ⌝ }
+    ensures { λ r. ⌜ Took (turns (now (t .entry)) (tableOf (now (t .entry))) (now (register .entry)) (now (s .entry)) (now (reports .entry))) r (now (register .exit)) (now (reports .exit)) ⌝ }
+{
+    if s.len() == 0 {
+        return Taken {
+            number: 0,
+            taken: 0,
+        };
+    }
+    let l = layout_of(t);
+    let counters = f.counters;
+    let points = f.points;
+    let need = 11 * l.range_count + 3 * counters + 10 * points;
+    if counters <= 1024 {
+        if points <= 4 {
+            if need <= 1024 {
+                return small(register, reports, t, s);
+            }
+        }
+    }
+    if counters <= 4096 {
+        if need <= 8192 {
+            return medium(register, reports, t, s);
+        }
+    }
+    largest(register, reports, t, s)
 }

@@ -64,11 +64,11 @@ inWidthAt s w p = ltb (valueWord w p) (2 ^ byte s (recordsPlace s 0 + 11 * p)) &
 unfoldable pub inWidthsAt : List ℕ → List ℕ → ℕ → Bool
 inWidthsAt s w n = all (inWidthAt s w) (upFrom 0 n)
 
--- a sample's own tests, by the table's bytes and facts
-unfoldable pub ownRefusal : List ℕ → Facts → List ℕ → List ℕ → ℕ → ℕ → ℕ
-ownRefusal s f v report flag samples =
+-- a sample's own tests, by the table's bytes and how many points and illegal counters it has
+unfoldable pub ownRefusal : List ℕ → ℕ → ℕ → List ℕ → List ℕ → ℕ → ℕ → ℕ
+ownRefusal s points illegals v report flag samples =
     firstFailed
-    ((eqb (length v) (4 + 2 * f .points), 12) ∷ (inWidthsAt s v (f .points), 13) ∷ (leb (f .illegals) (length report), 11)
+    ((eqb (length v) (4 + 2 * points), 12) ∷ (inWidthsAt s v points, 13) ∷ (leb illegals (length report), 11)
     ∷ (eqb flag 1, 10) ∷ (ltb samples lastSample, 9) ∷ [])
 
 -- s are the table's bytes, v the sample's words, report those of the report: 7, 8, 12, 13, 11, 10, 9, else 0

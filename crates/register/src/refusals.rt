@@ -112,20 +112,19 @@ fn unless(ok: bool, number: u32, rest: u32) -> u32
     if ok { rest } else { number }
 }
 
-// The sample's own tests, last first, for a register with this flag and so many samples.
+// The sample's own tests, last first, for a register with this flag and so many samples. points and illegals are the table's.
 pub fn own_refusal(
     t: &[u8],
     sample: &[u32],
     report: &[u32],
     flag: u32,
     samples: u32,
-    f: Facts,
+    points: usize,
+    illegals: usize,
 ) -> u32
-    requires { ⌜ Few f ⌝ }
-    ensures { λ r. ⌜ r ≡ ownRefusal (now (t .entry)) f (now (sample .entry)) (now (report .entry)) flag samples ⌝ }
+    requires { ⌜ points < 65536 ⌝ }
+    ensures { λ r. ⌜ r ≡ ownRefusal (now (t .entry)) points illegals (now (sample .entry)) (now (report .entry)) flag samples ⌝ }
 {
-    let points = f.points;
-    let illegals = f.illegals;
     let full = unless(samples < 4294967295, 9, 0);
     let stopped = unless(flag == 1, 10, full);
     let room = unless(illegals <= report.len(), 11, stopped);
@@ -142,7 +141,15 @@ pub fn sample_refusal(t: &[u8], register: &[u32], sample: &[u32], report: &[u32]
     if r != 0 {
         return r;
     }
-    own_refusal(t, sample, report, register[0], register[1], f)
+    own_refusal(
+        t,
+        sample,
+        report,
+        register[0],
+        register[1],
+        f.points,
+        f.illegals,
+    )
 }
 
 // A reset: the table is refused, or the register is too short.

@@ -1,113 +1,96 @@
-use mathlib.Core.Path.{_≡_, refl, _∙_}
-use Prim.Native.Nat.{_-_}
 use native.Mathlib.Omega.{arith}
-use lib.ListN.{length}
-use Rattle.batch.proofs.TurnLaws.{Going, cut-for, going-start, going-end, going-stop, going-room, going-on}
+use Rattle.register.proofs.FigureLaws.{known-accepted}
+use Rattle.batch.proofs.TurnLaws.{took-none}
+use Rattle.batch.proofs.PreparedLaws.{small-fits, medium-fits}
+use borrow.Author.Needs.{needs}
 use Rattle.batch.proofs.turns.all.Statement.{statement}
 use Rattle.batch.proofs.turns.all.Tie as tie
 
-abbrev Inv-loop : tie.InvT-loop
-Inv-loop register₀ reports₀ t s f size illegals a₀ k₀ taken₀ register reports a k taken = Going t f s register₀ reports₀ register reports a k taken × (length register ≡ length register₀) × (length reports ≡ length reports₀)
+returns : tie.Need-returns
+returns c = took-none _ _ _ _ _ (c .if1 .taken)
 
-abbrev μ-loop : tie.MeasureT-loop
-μ-loop register₀ reports₀ t s f size illegals a₀ k₀ taken₀ register reports a k taken = length s - a
+layout-of-requires : tie.Need-layout-of-requires
+layout-of-requires c κs = search needs
 
-mul-size : tie.Need-mul-size Inv-loop μ-loop
-mul-size c = omega (arith, c .before .before .before .before .before .pre .few .points)
+mul-need : tie.Need-mul-need
+mul-need c = search needs
 
-add-size : tie.Need-add-size Inv-loop μ-loop
-add-size c = omega (arith, c .before .before .before .before .before .pre .few .points)
+mul-need-2 : tie.Need-mul-need-2
+mul-need-2 c = omega (arith, c .before .before .before .before .before .before .before .pre .2 .counters, c .before .before .before .before .before .before .before .pre .2 .points)
 
-loop-holds : tie.Need-loop-holds Inv-loop μ-loop
-loop-holds c =
-    let a = c .before .before .before .before .before .args in
-    (going-start _ _ (a .s .now) (a .register .now) (a .reports .now) (c .before .before .before .before .before .pre), refl, refl)
+add-need : tie.Need-add-need
+add-need c = omega (arith, c .before .before .before .before .before .before .before .pre .2 .counters, c .before .before .before .before .before .before .before .pre .2 .points)
 
-end-of-requires : tie.Need-end-of-requires Inv-loop μ-loop
-end-of-requires c κs = omega arith
+mul-need-3 : tie.Need-mul-need-3
+mul-need-3 c = omega (arith, c .before .before .before .before .before .before .before .pre .2 .counters, c .before .before .before .before .before .before .before .pre .2 .points)
 
-part-requires : tie.Need-part-requires Inv-loop μ-loop
-part-requires c κs =
-    let l = c .before .before .before .before .loop in
-    let v = c .before .before .before .before .before .before .before .before .before .before .args .s .now in
-    let cut = cut-for _ _ _ v (l .inv .0 .ready) _ _ (omega arith) (c .before .before .end-of .ensures) in
-    (l .inv .0 .ready, record { ordered = omega (arith, cut .after); words = cut .within; room = l .inv .0 .written })
+add-need-2 : tie.Need-add-need-2
+add-need-2 c = omega (arith, c .before .before .before .before .before .before .before .pre .2 .counters, c .before .before .before .before .before .before .before .pre .2 .points)
 
-same-length : tie.Need-same-length Inv-loop μ-loop
-same-length c = c .before .before .before .before .before .part .kept .0 ∙ c .before .before .before .before .before .before .before .before .before .before .loop .inv .1
+small-requires : tie.Need-small-requires
+small-requires c κs =
+    let p = c .before .before .before .before .before .before .before .before .before .before .before .before .pre in
+    let l = c .before .before .before .before .before .before .layout-of in
+    let q = small-fits _ (known-accepted _ (p .0 .known)) (l .result) (l .ensures .0) _ _ (p .1 .counters) (p .1 .points) (c .before .before .before .before .if2 .taken) (c .before .before .before .if3 .taken) (c .before .before .if4 .taken) in
+    (p .0, q .0, q .1, q .2)
 
-same-length-2 : tie.Need-same-length-2 Inv-loop μ-loop
-same-length-2 c = c .before .before .before .before .before .part .kept .1 .0 ∙ c .before .before .before .before .before .before .before .before .before .before .loop .inv .2
+same-length : tie.Need-same-length
+same-length c = search needs
 
-returns : tie.Need-returns Inv-loop μ-loop
-returns c =
-    let l = c .before .before .before .before .before .before .before .before .before .before .loop in
-    let v = c .before .before .before .before .before .before .before .before .before .before .before .before .before .before .before .before .args .s .now in
-    let cut = cut-for _ _ _ v (l .inv .0 .ready) _ _ (omega arith) (c .before .before .before .before .before .before .before .before .end-of .ensures) in
-    let q = c .before .before .before .before .before .part in
-    going-stop _ _ v _ _ _ _ _ _ _ (l .inv .0) (omega arith) _ cut _ _ _ (q .ensures) (c .if1 .taken)
+same-length-2 : tie.Need-same-length-2
+same-length-2 c = search needs
 
-add-k : tie.Need-add-k Inv-loop μ-loop
-add-k c =
-    let l = c .before .before .before .before .before .before .before .before .before .before .loop in
-    let v = c .before .before .before .before .before .before .before .before .before .before .before .before .before .before .before .before .args .s .now in
-    let cut = cut-for _ _ _ v (l .inv .0 .ready) _ _ (omega arith) (c .before .before .before .before .before .before .before .before .end-of .ensures) in
-    let q = c .before .before .before .before .before .part in
-    omega (arith, going-room _ _ v _ _ _ _ _ _ _ (l .inv .0) (omega arith) _ cut _ _ _ (q .ensures) (c .if1 .left))
+returns-2 : tie.Need-returns-2
+returns-2 c = search needs
 
-add-taken : tie.Need-add-taken Inv-loop μ-loop
-add-taken c =
-    let l = c .before .before .before .before .before .before .before .before .before .before .loop in
-    let v = c .before .before .before .before .before .before .before .before .before .before .before .before .before .before .before .before .args .s .now in
-    let cut = cut-for _ _ _ v (l .inv .0 .ready) _ _ (omega arith) (c .before .before .before .before .before .before .before .before .end-of .ensures) in
-    let q = c .before .before .before .before .before .part in
-    omega (arith, l .inv .0 .few)
+medium-requires : tie.Need-medium-requires
+medium-requires c κs =
+    let p = c .before .before .before .before .before .before .before .before .before .before .before .before .pre in
+    let l = c .before .before .before .before .before .before .layout-of in
+    let q = medium-fits _ (known-accepted _ (p .0 .known)) (l .result) (l .ensures .0) _ _ (p .1 .counters) (p .1 .points) (p .2 .points) (c .before .before .before .if5 .taken) (c .before .before .if6 .taken) in
+    (p .0, q .0, q .1, q .2)
 
-loop-less : tie.Need-loop-less Inv-loop μ-loop
-loop-less c =
-    let l = c .before .before .before .before .before .before .before .before .before .before .loop in
-    let v = c .before .before .before .before .before .before .before .before .before .before .before .before .before .before .before .before .args .s .now in
-    let cut = cut-for _ _ _ v (l .inv .0 .ready) _ _ (omega arith) (c .before .before .before .before .before .before .before .before .end-of .ensures) in
-    let q = c .before .before .before .before .before .part in
-    omega (arith, cut .after, cut .within)
+same-length-3 : tie.Need-same-length-3
+same-length-3 c = search needs
 
-loop-again : tie.Need-loop-again Inv-loop μ-loop
-loop-again c =
-    let l = c .before .before .before .before .before .before .before .before .before .before .loop in
-    let v = c .before .before .before .before .before .before .before .before .before .before .before .before .before .before .before .before .args .s .now in
-    let cut = cut-for _ _ _ v (l .inv .0 .ready) _ _ (omega arith) (c .before .before .before .before .before .before .before .before .end-of .ensures) in
-    let q = c .before .before .before .before .before .part in
-    (going-on _ _ v _ _ _ _ _ _ _ (l .inv .0) (omega arith) _ cut _ _ _ (q .ensures) (c .if1 .left), q .kept .0 ∙ l .inv .1, q .kept .1 .0 ∙ l .inv .2)
+same-length-4 : tie.Need-same-length-4
+same-length-4 c = search needs
 
-same-length-3 : tie.Need-same-length-3 Inv-loop μ-loop
-same-length-3 c = c .before .loop .inv .1
+returns-3 : tie.Need-returns-3
+returns-3 c = search needs
 
-same-length-4 : tie.Need-same-length-4 Inv-loop μ-loop
-same-length-4 c = c .before .loop .inv .2
+largest-requires : tie.Need-largest-requires
+largest-requires c κs = c .before .before .before .before .before .before .before .before .before .before .before .pre .0
 
-returns-2 : tie.Need-returns-2 Inv-loop μ-loop
-returns-2 c =
-    let l = c .before .loop in
-    going-end _ _ _ _ _ _ _ _ _ _ (l .inv .0) (omega arith)
+same-length-5 : tie.Need-same-length-5
+same-length-5 c = search needs
+
+same-length-6 : tie.Need-same-length-6
+same-length-6 c = search needs
+
+returns-4 : tie.Need-returns-4
+returns-4 c = search needs
 
 pub all-spec : {M : Type 1} → statement M
 all-spec =
     tie.close
     (tie.spec
-    Inv-loop
-    μ-loop
-    mul-size
-    add-size
-    loop-holds
-    end-of-requires
-    part-requires
+    returns
+    layout-of-requires
+    mul-need
+    mul-need-2
+    add-need
+    mul-need-3
+    add-need-2
+    small-requires
     same-length
     same-length-2
-    returns
-    add-k
-    add-taken
-    loop-less
-    loop-again
+    returns-2
+    medium-requires
     same-length-3
     same-length-4
-    returns-2)
+    returns-3
+    largest-requires
+    same-length-5
+    same-length-6
+    returns-4)

@@ -1,0 +1,63 @@
+use native.Mathlib.Omega.{arith}
+use Rattle.register.proofs.FigureLaws.{known-accepted}
+use Rattle.batch.proofs.PreparedLaws.{largest-fits}
+use borrow.Author.Needs.{needs}
+use Rattle.batch.proofs.turns.largest.Statement.{statement}
+use Rattle.batch.proofs.turns.largest.Tie as tie
+
+slice-aggregate-prepare : tie.Need-slice-aggregate-prepare
+slice-aggregate-prepare c = search needs
+
+slice-aggregate-prepare-2 : tie.Need-slice-aggregate-prepare-2
+slice-aggregate-prepare-2 c = search needs
+
+slice-aggregate-prepare-3 : tie.Need-slice-aggregate-prepare-3
+slice-aggregate-prepare-3 c = search needs
+
+prepare-requires : tie.Need-prepare-requires
+prepare-requires c κs =
+    let p = c .before .before .before .before .before .before .before .pre in
+    let ok = known-accepted _ (p .known) in
+    let fits = largest-fits _ ok in
+    (ok, (omega (arith, fits .0 .0), omega (arith, fits .0 .1)), omega (arith, fits .1), omega (arith, fits .2))
+
+slice-aggregate-each : tie.Need-slice-aggregate-each
+slice-aggregate-each c = search needs
+
+slice-aggregate-each-2 : tie.Need-slice-aggregate-each-2
+slice-aggregate-each-2 c = search needs
+
+slice-aggregate-each-3 : tie.Need-slice-aggregate-each-3
+slice-aggregate-each-3 c = search needs
+
+each-requires : tie.Need-each-requires
+each-requires c κs =
+    let p = c .before .before .before .before .before .before .before .before .before .before .before .before .before .before .before .before .pre in
+    let ok = known-accepted _ (p .known) in
+    let fits = largest-fits _ ok in
+    (p, record { planned = c .before .before .before .before .before .before .before .before .prepare .ensures .0; room = omega (arith, fits .0 .1) })
+
+same-length : tie.Need-same-length
+same-length c = search needs
+
+same-length-2 : tie.Need-same-length-2
+same-length-2 c = search needs
+
+returns : tie.Need-returns
+returns c = search needs
+
+pub largest-spec : {M : Type 1} → statement M
+largest-spec =
+    tie.close
+    (tie.spec
+    slice-aggregate-prepare
+    slice-aggregate-prepare-2
+    slice-aggregate-prepare-3
+    prepare-requires
+    slice-aggregate-each
+    slice-aggregate-each-2
+    slice-aggregate-each-3
+    each-requires
+    same-length
+    same-length-2
+    returns)
