@@ -1,7 +1,8 @@
 /* Fluviquen: a functional-coverage register whose every answer is proved. For x86-64 Linux.
  *
  * Each function returns a refusal number, 0 (FLUVIQUEN_ACCEPTED) for acceptance. Nothing is kept between calls, nothing is allocated, and
- * every call ends with an answer, whatever the bytes and words are. docs/RULES.md has the rules, docs/TABLE.md the table's bytes.
+ * every call ends with an answer, whatever the bytes and words are. A call needs up to 448 KB of stack. docs/RULES.md has the rules,
+ * docs/TABLE.md the table's bytes.
  *
  * Of the caller's pointers:
  *   - an array has as many elements as its length says; where the length is 0, the pointer may be null;
