@@ -3,4 +3,5 @@ pub mod Keeps
 pub mod TurnLaws
 pub mod PreparedLaws
 pub mod TopLaws
+pub mod OneLaws
 pub mod Listed

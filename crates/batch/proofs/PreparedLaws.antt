@@ -7,20 +7,22 @@ use Prim.Native.Nat.{ℕ, _+_, _*_, _≤_}
 use native.Mathlib.Omega.{arith}
 use lib.ListN.{getD}
 use Rattle.model.specs.Format.{accepted, decode, decoded, tableOf}
-use Rattle.model.specs.Register.{pointTotal, counterTotal, illegalTotal}
+use Rattle.model.specs.Register.{pointTotal, illegalTotal}
 use Rattle.model.proofs.RawExact.{few-points}
 use Rattle.layout.specs.Places.{layoutOf}
 use Rattle.layout.specs.declared.Layout.{Layout}
-use Rattle.lists.specs.Lists.{illegalsAt, listsNeed}
+use Rattle.lists.specs.Lists.{illegalsAt}
 use Rattle.lists.specs.Lists as Lists
-use Rattle.lists.proofs.SizeLaws.{plan-size, lists-size, lists-most, ranges-count}
+use Rattle.lists.proofs.SizeLaws.{lists-size, lists-most}
 use Rattle.crosses.proofs.Places.{count-points}
 use Rattle.register.proofs.FigureLaws.{known-accepted}
 use Rattle.pieces.specs.Plan.{planNeed}
 use Rattle.pieces.proofs.PlanTurns.{plan-need}
-use Rattle.sampling.specs.Index.{Roomy}
-use Rattle.sampling.proofs.Joins.{largest-room}
+use Rattle.sampling.specs.declared.Index.{Index}
+use Rattle.sampling.specs.Index.{Indexed}
+use Rattle.sampling.proofs.Joins.{largest-room, plan-within, start-few}
 use Rattle.samples.proofs.ReportLaws.{illegal-many}
+use Rattle.batch.specs.Turns.{Sized}
 
 -- the points by the table's bytes, the illegal counters by the lists
 pub counted : (s plan lists : List ℕ) → decode s ≡ decoded (tableOf s) → Lists.Ready (tableOf s) plan lists → (l : Layout) → l ≡ layoutOf s → (k : ℕ) → k ≡ getD lists (81 + 514 * l .«point_count») 0
@@ -33,19 +35,23 @@ counted s plan lists known h l e k g =
 -- ---- the size classes
 
 module _ (s : List ℕ) (ok : accepted s ≡ true) where
-  pub largest-fits : Roomy (tableOf s) 12416 × (planNeed (tableOf s) ≤ 23712) × (listsNeed (tableOf s) ≤ 28930)
+  pub largest-fits : Sized (tableOf s) 23712 28930 12672
   largest-fits =
       let r = largest-room s ok in
-      (r, plan-need s ok, omega (arith, lists-most s ok, few-points s ok, r .1))
+      record { plan = plan-need s ok; lists = omega (arith, lists-most s ok, few-points s ok, r .1); hits = omega (arith, r .1) }
 
-  module _ (l : Layout) (e : l ≡ layoutOf s) (counters points : ℕ) (ec : counters ≡ counterTotal (tableOf s)) (ep : points ≡ pointTotal (tableOf s)) where
-    need-is : planNeed (tableOf s) ≤ 11 * l .«range_count» + 3 * counters + 10 * points
-    need-is = omega (arith, plan-size s ok, ranges-count s ok l e, ec, ep)
+  pub index-small : (x : Index) → Indexed (tableOf s) x → (x .points ≤ 16) × (getD (x .starts) (x .points) 0 ≤ 4096)
+  index-small x own = (omega (arith, own .points, few-points s ok), start-few s ok (x .starts) (own .starts) (x .points) (own .points))
 
-    pub small-fits : counters ≤ 1024 → points ≤ 4 → 11 * l .«range_count» + 3 * counters + 10 * points ≤ 1024
-        → Roomy (tableOf s) 1024 × (planNeed (tableOf s) ≤ 1024) × (listsNeed (tableOf s) ≤ 4202)
-    small-fits hc hp hn = ((omega arith, omega arith), omega (arith, need-is), omega (arith, lists-size s ok))
+  module _ (l : Layout) (e : l ≡ layoutOf s) (x : Index) (own : Indexed (tableOf s) x) where
+    abbrev need : ℕ
+    need = 11 * l .«range_count» + 3 * getD (x .starts) (x .points) 0 + 10 * x .points
 
-    pub medium-fits : points ≤ 16 → counters ≤ 4096 → 11 * l .«range_count» + 3 * counters + 10 * points ≤ 8192
-        → Roomy (tableOf s) 4096 × (planNeed (tableOf s) ≤ 8192) × (listsNeed (tableOf s) ≤ 16514)
-    medium-fits hp hc hn = ((omega arith, omega arith), omega (arith, need-is), omega (arith, lists-size s ok))
+    enough : planNeed (tableOf s) ≤ need
+    enough = omega (arith, plan-within s ok l e (x .starts) (own .starts) (x .points) (own .points))
+
+    pub small-fits : x .points ≤ 4 → x .counters ≤ 512 → need ≤ 1024 → Sized (tableOf s) 1024 3178 768
+    small-fits hp hc hn = record { plan = omega (arith, enough); lists = omega (arith, lists-size s ok, own .points, own .counters); hits = omega (arith, own .counters) }
+
+    pub medium-fits : x .counters ≤ 2048 → need ≤ 6144 → Sized (tableOf s) 6144 12418 2304
+    medium-fits hc hn = record { plan = omega (arith, enough); lists = omega (arith, lists-size s ok, few-points s ok, own .points, own .counters); hits = omega (arith, own .counters) }

@@ -10,6 +10,7 @@ use Rattle.model.specs.Lists.{firstFailed}
 use Rattle.model.specs.Table.{Table}
 use Rattle.model.specs.Format.{decode, decoded, tableOf}
 use Rattle.model.specs.Register.{counterTotal, Effect, registerTests}
+use Rattle.pieces.specs.Plan.{planNeed}
 use Rattle.lists.specs.Lists as Lists
 use Rattle.batch.specs.declared.Taken.{Taken}
 use Rattle.batch.specs.Batch.{Batch, inTurn}
@@ -23,6 +24,12 @@ pub record Ready (s w : List ℕ) : Type 0 where
 pub record Prepared (s plan lists : List ℕ) (hits : ℕ) : Type 0 where
   pub planned : Lists.Ready (tableOf s) plan lists
   pub room : counterTotal (tableOf s) + 256 ≤ hits
+
+-- arrays of so many elements hold the plan and the lists of the table, and the places that a sample hits
+pub record Sized (t : Table) (n m k : ℕ) : Type 0 where
+  pub plan : planNeed t ≤ n
+  pub lists : Lists.listsNeed t ≤ m
+  pub hits : counterTotal t + 256 ≤ k
 
 -- a sample's effect: its number, the words and the report
 pub record Done (e : Effect) (n : ℕ) (w r : List ℕ) : Type 0 where

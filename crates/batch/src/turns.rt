@@ -2,21 +2,20 @@
 use crate::Taken;
 use arrays::element;
 use layout::layout_of;
+use lists::put_ready;
 use register::refusals::own_refusal;
-use samples::single::prepare;
 use samples::write::write_planned;
+use sampling::Index;
+use sampling::put_kinds;
 use table::answer::Facts;
 ghost use mathlib.Core.Path.{_≡_};
 ghost use Prim.Native.Nat.{_≤_};
 ghost use lib.ListN.{length};
 ghost use Rattle.model.specs.Format.{tableOf};
 ghost use Rattle.model.specs.Register.{call, sample};
-ghost use Rattle.table.specs.Check.{Few};
 ghost use Rattle.register.specs.Refusals.{Describes};
-ghost use Rattle.pieces.specs.Plan.{planNeed};
-ghost use Rattle.sampling.specs.Index.{Roomy};
-ghost use Rattle.lists.specs.Lists.{listsNeed};
-ghost use Rattle.batch.specs.Turns.{Ready, Prepared, Done, Took, turns, endOf};
+ghost use Rattle.sampling.specs.Index.{Roomy, Indexed, Labelled};
+ghost use Rattle.batch.specs.Turns.{Ready, Prepared, Sized, Done, Took, turns, endOf};
 
 // One sample: its own tests, and what it writes.
 fn one(
@@ -89,46 +88,115 @@ fn each(
     }
 }
 
-// Size classes: a small table does not pay for the clearing of large arrays.
-fn small(register: &mut [u32], reports: &mut [u32], t: &[u8], s: &[u32]) -> Taken
-    requires { ⌜ Ready (now t) (now register) × Roomy (tableOf (now t)) 1024 × (planNeed (tableOf (now t)) ≤ 1024) × (listsNeed (tableOf (now t)) ≤ 4202) ⌝ }
+// Size classes: a small table does not pay for the clearing of large arrays. kinds and x are the table's.
+fn small(
+    register: &mut [u32],
+    reports: &mut [u32],
+    t: &[u8],
+    s: &[u32],
+    kinds: &[u8],
+    x: Index,
+) -> Taken
+    requires { ⌜ Ready (now t) (now register) × Indexed (tableOf (now t)) x × Labelled (tableOf (now t)) (now kinds) × Sized (tableOf (now t)) 1024 3178 768 ⌝ }
     ensures { λ r. ⌜ Took (turns (now (t .entry)) (tableOf (now (t .entry))) (now (register .entry)) (now (s .entry)) (now (reports .entry))) r (now (register .exit)) (now (reports .exit)) ⌝ }
 {
     let mut plan = [0u64; 1024];
-    let mut lists = [0u16; 4202];
-    let mut kinds = [0u8; 1024];
-    let mut hits = [0u16; 1280];
-    prepare(&mut plan, &mut lists, &mut kinds, t);
+    let mut lists = [0u16; 3178];
+    let mut hits = [0u16; 768];
+    put_ready(&mut plan, &mut lists, t, kinds, x);
     each(register, reports, t, s, &plan, &lists, &mut hits)
 }
 
-fn medium(register: &mut [u32], reports: &mut [u32], t: &[u8], s: &[u32]) -> Taken
-    requires { ⌜ Ready (now t) (now register) × Roomy (tableOf (now t)) 4096 × (planNeed (tableOf (now t)) ≤ 8192) × (listsNeed (tableOf (now t)) ≤ 16514) ⌝ }
+fn medium(
+    register: &mut [u32],
+    reports: &mut [u32],
+    t: &[u8],
+    s: &[u32],
+    kinds: &[u8],
+    x: Index,
+) -> Taken
+    requires { ⌜ Ready (now t) (now register) × Indexed (tableOf (now t)) x × Labelled (tableOf (now t)) (now kinds) × Sized (tableOf (now t)) 6144 12418 2304 ⌝ }
     ensures { λ r. ⌜ Took (turns (now (t .entry)) (tableOf (now (t .entry))) (now (register .entry)) (now (s .entry)) (now (reports .entry))) r (now (register .exit)) (now (reports .exit)) ⌝ }
 {
-    let mut plan = [0u64; 8192];
-    let mut lists = [0u16; 16514];
-    let mut kinds = [0u8; 4096];
-    let mut hits = [0u16; 4352];
-    prepare(&mut plan, &mut lists, &mut kinds, t);
+    let mut plan = [0u64; 6144];
+    let mut lists = [0u16; 12418];
+    let mut hits = [0u16; 2304];
+    put_ready(&mut plan, &mut lists, t, kinds, x);
     each(register, reports, t, s, &plan, &lists, &mut hits)
 }
 
-fn largest(register: &mut [u32], reports: &mut [u32], t: &[u8], s: &[u32]) -> Taken
-    requires { ⌜ Ready (now t) (now register) ⌝ }
+fn largest(
+    register: &mut [u32],
+    reports: &mut [u32],
+    t: &[u8],
+    s: &[u32],
+    kinds: &[u8],
+    x: Index,
+) -> Taken
+    requires { ⌜ Ready (now t) (now register) × Indexed (tableOf (now t)) x × Labelled (tableOf (now t)) (now kinds) ⌝ }
     ensures { λ r. ⌜ Took (turns (now (t .entry)) (tableOf (now (t .entry))) (now (register .entry)) (now (s .entry)) (now (reports .entry))) r (now (register .exit)) (now (reports .exit)) ⌝ }
 {
     let mut plan = [0u64; 23712];
     let mut lists = [0u16; 28930];
-    let mut kinds = [0u8; 12416];
     let mut hits = [0u16; 12672];
-    prepare(&mut plan, &mut lists, &mut kinds, t);
+    put_ready(&mut plan, &mut lists, t, kinds, x);
     each(register, reports, t, s, &plan, &lists, &mut hits)
+}
+
+// By the points' counters, how much room the plan needs, and the class.
+fn classed(
+    register: &mut [u32],
+    reports: &mut [u32],
+    t: &[u8],
+    s: &[u32],
+    kinds: &[u8],
+    x: Index,
+) -> Taken
+    requires { ⌜ Ready (now t) (now register) × Indexed (tableOf (now t)) x × Labelled (tableOf (now t)) (now kinds) ⌝ }
+    ensures { λ r. ⌜ Took (turns (now (t .entry)) (tableOf (now (t .entry))) (now (register .entry)) (now (s .entry)) (now (reports .entry))) r (now (register .exit)) (now (reports .exit)) ⌝ }
+{
+    let starts = x.starts;
+    let points = x.points;
+    let counters = x.counters;
+    let l = layout_of(t);
+    let need = 11 * l.range_count + 3 * (starts[points] as usize) + 10 * points;
+    if points <= 4 {
+        if counters <= 512 {
+            if need <= 1024 {
+                return small(register, reports, t, s, kinds, x);
+            }
+        }
+    }
+    if counters <= 2048 {
+        if need <= 6144 {
+            return medium(register, reports, t, s, kinds, x);
+        }
+    }
+    largest(register, reports, t, s, kinds, x)
+}
+
+// With the kinds of few counters, and with those of many.
+fn few(register: &mut [u32], reports: &mut [u32], t: &[u8], s: &[u32]) -> Taken
+    requires { ⌜ Ready (now t) (now register) × Roomy (tableOf (now t)) 1024 ⌝ }
+    ensures { λ r. ⌜ Took (turns (now (t .entry)) (tableOf (now (t .entry))) (now (register .entry)) (now (s .entry)) (now (reports .entry))) r (now (register .exit)) (now (reports .exit)) ⌝ }
+{
+    let mut kinds = [0u8; 1024];
+    let x = put_kinds(&mut kinds, t);
+    classed(register, reports, t, s, &kinds, x)
+}
+
+fn many(register: &mut [u32], reports: &mut [u32], t: &[u8], s: &[u32]) -> Taken
+    requires { ⌜ Ready (now t) (now register) ⌝ }
+    ensures { λ r. ⌜ Took (turns (now (t .entry)) (tableOf (now (t .entry))) (now (register .entry)) (now (s .entry)) (now (reports .entry))) r (now (register .exit)) (now (reports .exit)) ⌝ }
+{
+    let mut kinds = [0u8; 12416];
+    let x = put_kinds(&mut kinds, t);
+    classed(register, reports, t, s, &kinds, x)
 }
 
 // All samples, in turn: f are the table's facts. Without samples nothing is worked out.
 pub fn all(register: &mut [u32], reports: &mut [u32], t: &[u8], s: &[u32], f: Facts) -> Taken
-    requires { ⌜ Ready (now t) (now register) × Describes f (tableOf (now t)) × Few f ⌝ }
+    requires { ⌜ Ready (now t) (now register) × Describes f (tableOf (now t)) ⌝ }
     ensures { λ r. ⌜ Took (turns (now (t .entry)) (tableOf (now (t .entry))) (now (register .entry)) (now (s .entry)) (now (reports .entry))) r (now (register .exit)) (now (reports .exit)) ⌝ }
 {
     if s.len() == 0 {
@@ -137,21 +205,10 @@ pub fn all(register: &mut [u32], reports: &mut [u32], t: &[u8], s: &[u32], f: Fa
             taken: 0,
         };
     }
-    let l = layout_of(t);
-    let counters = f.counters;
-    let points = f.points;
-    let need = 11 * l.range_count + 3 * counters + 10 * points;
-    if counters <= 1024 {
-        if points <= 4 {
-            if need <= 1024 {
-                return small(register, reports, t, s);
-            }
+    if f.points <= 4 {
+        if f.counters <= 1024 {
+            return few(register, reports, t, s);
         }
     }
-    if counters <= 4096 {
-        if need <= 8192 {
-            return medium(register, reports, t, s);
-        }
-    }
-    largest(register, reports, t, s)
+    many(register, reports, t, s)
 }

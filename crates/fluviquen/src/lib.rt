@@ -78,7 +78,7 @@ pub extern "C" fn fluviquen_sample(
     ensures { λ _. ⌜ now (reg .exit) ≡ Model.call (now (table .entry)) (now (reg .entry)) (Model.sample (now (sample .entry)) (now (report .entry))) .words ⌝ }
     ensures { λ _. ⌜ now (report .exit) ≡ Model.call (now (table .entry)) (now (reg .entry)) (Model.sample (now (sample .entry)) (now (report .entry))) .response .report ⌝ }
 {
-    register::sample(table, reg, sample, report)
+    batch::sample(table, reg, sample, report)
 }
 
 // Takes samples in turn, up to the first that is refused: their words stand one after another, and so do their reports.

@@ -71,11 +71,6 @@ ownRefusal s points illegals v report flag samples =
     ((eqb (length v) (4 + 2 * points), 12) ∷ (inWidthsAt s v points, 13) ∷ (leb illegals (length report), 11)
     ∷ (eqb flag 1, 10) ∷ (ltb samples lastSample, 9) ∷ [])
 
--- s are the table's bytes, v the sample's words, report those of the report: 7, 8, 12, 13, 11, 10, 9, else 0
-pub record SampleRefusal (s : List ℕ) (f : Facts) (w v report : List ℕ) (r : ℕ) : Type 0 where
-  pub exact : (t : Table) → decode s ≡ decoded t → Describes f t → r ≡ firstFailed (callTests t w (sample v report))
-  pub long : r ≡ 0 → wordsOf f ≤ length w
-
 -- ---- a call on the table's bytes
 
 abbrev pub refusalFrom : Outcome → List ℕ → Call → ℕ

@@ -7,14 +7,12 @@ use crate::refusals::counter_refusal;
 use crate::refusals::item_refusal;
 use crate::refusals::register_refusal;
 use crate::refusals::reset_refusal;
-use crate::refusals::sample_refusal;
 use crate::refusals::start_refusal;
 use crate::refusals::unknown_refusal;
 use crate::zeros::run;
 use figures::Figure;
 use figures::GroupFigure;
 use layout::layout_of;
-use samples::single::write_sample;
 use table::facts;
 ghost use mathlib.Core.Path.{_≡_};
 ghost use Rattle.model.specs.Register as Model;
@@ -124,25 +122,6 @@ pub fn unknown_count(table: &[u8], register: &[u32], point: usize) -> Counted
         number: 0,
         count: count,
     }
-}
-
-// Takes a sample: the counters that it hits count 1 more, and the report has a word for each illegal counter.
-pub fn sample(table: &[u8], register: &mut [u32], sample: &[u32], report: &mut [u32]) -> u32
-    ensures { λ r. ⌜ r ≡ Model.call (now (table .entry)) (now (register .entry)) (Model.sample (now (sample .entry)) (now (report .entry))) .response .number ⌝ }
-    ensures { λ _. ⌜ now (register .exit) ≡ Model.call (now (table .entry)) (now (register .entry)) (Model.sample (now (sample .entry)) (now (report .entry))) .words ⌝ }
-    ensures { λ _. ⌜ now (report .exit) ≡ Model.call (now (table .entry)) (now (register .entry)) (Model.sample (now (sample .entry)) (now (report .entry))) .response .report ⌝ }
-{
-    let f = facts(table);
-    let own = f.number;
-    if own != 0 {
-        return own;
-    }
-    let number = sample_refusal(table, register, sample, report, f);
-    if number != 0 {
-        return number;
-    }
-    write_sample(register, report, table, sample, f.counters, f.points);
-    0
 }
 
 // An item's figure: its coverage in percent, or none.

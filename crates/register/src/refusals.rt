@@ -10,7 +10,7 @@ ghost use lib.ListN.{length, take, drop};
 ghost use Rattle.model.specs.Lists.{all};
 ghost use Rattle.model.specs.Register.{samplesOf, reset, start, askCounter, askUnknown};
 ghost use Rattle.table.specs.Check.{Few};
-ghost use Rattle.register.specs.Refusals.{atMost, consistentAt, inWidthAt, inWidthsAt, ownRefusal, RegisterRefusal, PartRefusal, ItemRefusal, SampleRefusal, CallRefusal};
+ghost use Rattle.register.specs.Refusals.{atMost, consistentAt, inWidthAt, inWidthsAt, ownRefusal, RegisterRefusal, PartRefusal, ItemRefusal, CallRefusal};
 
 // The words 2 to end - 1 are at most the sample word.
 fn counts_hold(register: &[u32], end: usize) -> bool
@@ -130,26 +130,6 @@ pub fn own_refusal(
     let room = unless(illegals <= report.len(), 11, stopped);
     let wide = unless(in_widths(t, sample, points), 13, room);
     unless(sample.len() == 4 + 2 * points, 12, wide)
-}
-
-// All tests of a sample: t is the accepted table whose facts are f.
-pub fn sample_refusal(t: &[u8], register: &[u32], sample: &[u32], report: &[u32], f: Facts) -> u32
-    requires { ⌜ Few f ⌝ }
-    ensures { λ r. ⌜ SampleRefusal (now (t .entry)) f (now (register .entry)) (now (sample .entry)) (now (report .entry)) r ⌝ }
-{
-    let r = register_refusal(register, f);
-    if r != 0 {
-        return r;
-    }
-    own_refusal(
-        t,
-        sample,
-        report,
-        register[0],
-        register[1],
-        f.points,
-        f.illegals,
-    )
 }
 
 // A reset: the table is refused, or the register is too short.

@@ -3,5 +3,4 @@ pub mod adds;
 pub mod counts;
 pub mod listed;
 pub mod raises;
-pub mod single;
 pub mod write;

@@ -1,4 +1,4 @@
-use mathlib.Core.Path.{_≡_, sym, ap, _∙_}
+use mathlib.Core.Path.{sym, ap, _∙_}
 use Rattle.model.specs.Register.{Effect, callTests, accept, askGroup}
 use Rattle.register.specs.Answers.{groupAnswer}
 use Rattle.register.proofs.CallLaws.{table-refuses, table-known, tests-refuse, tests-accept}

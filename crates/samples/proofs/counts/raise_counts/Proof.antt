@@ -1,8 +1,8 @@
-use mathlib.Core.Path.{_≡_, sym, ap, _∙_}
-use Prim.Native.Nat.{_+_, _≤_}
+use mathlib.Core.Path.{_∙_}
+use Prim.Native.Nat.{_+_}
 use native.Mathlib.Omega.{arith}
 use borrow.Author.Needs.{needs}
-use lib.ListN.{length, getD, set, length-set}
+use lib.ListN.{getD, set, length-set}
 use Rattle.samples.proofs.RaiseLaws.{raisable-first, raised-flags, unknowns-room}
 use Rattle.samples.proofs.CountLaws.{all-raised}
 use Rattle.samples.proofs.counts.raise_counts.Statement.{statement}

@@ -3,8 +3,6 @@ use Rattle.samples.proofs.SeekLaws.{told, none-left}
 use borrow.Author.Needs.{needs}
 use Rattle.samples.proofs.listed.is_at.Statement.{statement}
 use Rattle.samples.proofs.listed.is_at.Tie as tie
-use Rattle.samples.proofs.listed.is_at.Reads as reads
-use Rattle.samples.proofs.listed.is_at.Lts as lts
 
 mul-result : tie.Need-mul-result
 mul-result c = search needs

@@ -3,7 +3,7 @@ use mathlib.Core.List.{List, _∷_}
 use Prim.Native.Nat.{ℕ, _+_, _-_, _≤_, _<_}
 use native.Mathlib.Omega.{arith}
 use borrow.Author.Needs.{needs}
-use lib.ListN.{length, drop, getD, set, length-set}
+use lib.ListN.{length, drop, getD, length-set}
 use Rattle.model.specs.Lists.{oneOf, asBit}
 use Rattle.arrays.specs.Put.{put}
 use Rattle.arrays.proofs.PutLaws.{put-cons, put-nil}
@@ -11,11 +11,6 @@ use Rattle.samples.specs.Raises.{hitBits}
 use Rattle.samples.proofs.SeekLaws.{bits-turn, bits-end, next-above}
 use Rattle.samples.proofs.listed.report_listed.Statement.{statement}
 use Rattle.samples.proofs.listed.report_listed.Tie as tie
-use Rattle.samples.proofs.listed.report_listed.Reads as reads
-use Rattle.samples.proofs.listed.report_listed.Lts as lts
-use Rattle.arrays.proofs.as_bit.Reads as as-bit-reads
-use Rattle.samples.proofs.listed.is_at.Reads as is-at-reads
-use Rattle.samples.proofs.listed.seek.Reads as seek-reads
 
 abbrev Inv-loop : tie.InvT-loop
 Inv-loop report₀ illegals hits n j₀ i₀ report j i =

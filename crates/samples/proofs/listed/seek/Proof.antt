@@ -1,13 +1,11 @@
 use mathlib.Core.Path.{_≡_, refl, _∙_}
-use Prim.Native.Nat.{ℕ, _+_, _-_, _≤_}
+use Prim.Native.Nat.{ℕ, _-_, _≤_}
 use native.Mathlib.Omega.{arith}
-use lib.ListN.{length, drop}
+use lib.ListN.{drop}
 use Rattle.model.specs.Lists.{oneOf}
 use Rattle.samples.proofs.SeekLaws.{pass-one}
 use Rattle.samples.proofs.listed.seek.Statement.{statement}
 use Rattle.samples.proofs.listed.seek.Tie as tie
-use Rattle.samples.proofs.listed.seek.Reads as reads
-use Rattle.samples.proofs.listed.seek.Lts as lts
 
 abbrev Inv-loop : tie.InvT-loop
 Inv-loop hits from k n j₀ j = (j ≤ n) × ((x : ℕ) → k ≤ x → oneOf x (drop j hits) ≡ oneOf x (drop from hits))

@@ -1,7 +1,7 @@
-use mathlib.Core.Path.{_≡_, refl, sym, ap, _∙_}
-use Prim.Native.Nat.{ℕ, _+_, _-_, _≤_}
+use mathlib.Core.Path.{_≡_, refl, sym, _∙_}
+use Prim.Native.Nat.{_-_, _≤_}
 use native.Mathlib.Omega.{arith}
-use lib.ListN.{length, drop, getD, set, length-set}
+use lib.ListN.{length, drop, length-set}
 use Rattle.samples.specs.Raises.{raiseEach, Raisable}
 use Rattle.samples.proofs.RaiseLaws.{raise-there, raise-room, raise-on, raise-turn, raise-end}
 use Rattle.samples.proofs.raises.raise_each.Statement.{statement}

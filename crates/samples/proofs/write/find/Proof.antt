@@ -1,4 +1,4 @@
-use mathlib.Core.Path.{_≡_, ap, _∙_}
+use mathlib.Core.Path.{ap, _∙_}
 use mathlib.Core.List.{List}
 use Prim.Native.Nat.{ℕ, _+_}
 use native.Mathlib.Omega.{arith}
@@ -10,14 +10,6 @@ use Rattle.samples.proofs.FindLaws.{few, runs-room, readings-known, run
 use borrow.Author.Needs.{needs}
 use Rattle.samples.proofs.write.find.Statement.{statement}
 use Rattle.samples.proofs.write.find.Tie as tie
-use Rattle.samples.proofs.write.find.Reads as reads
-use Rattle.samples.proofs.write.find.Lts as lts
-use Rattle.arrays.proofs.element.Reads as element-reads
-use Rattle.engine.proofs.find_hits.Reads as find-hits-reads
-use Rattle.layout.proofs.layout_of.Reads as layout-of-reads
-use Rattle.points.proofs.readings.read_all.Reads as read-all-reads
-use Rattle.runs.proofs.advance.advance_runs.Reads as advance-runs-reads
-use Rattle.runs.proofs.lengths.put_lengths.Reads as put-lengths-reads
 
 layout-of-requires : tie.Need-layout-of-requires
 layout-of-requires c κs = search needs

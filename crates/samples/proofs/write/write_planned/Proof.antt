@@ -1,4 +1,4 @@
-use mathlib.Core.Path.{_≡_, sym}
+use mathlib.Core.Path.{sym}
 use native.Mathlib.Omega.{arith}
 use lib.Seq.{length-take-le}
 use Rattle.model.specs.Format.{tableOf}
@@ -8,13 +8,6 @@ use Rattle.samples.proofs.PlannedWrites.{hits-in, countable, codes-in, 
 use borrow.Author.Needs.{needs}
 use Rattle.samples.proofs.write.write_planned.Statement.{statement}
 use Rattle.samples.proofs.write.write_planned.Tie as tie
-use Rattle.samples.proofs.write.write_planned.Reads as reads
-use Rattle.samples.proofs.write.write_planned.Lts as lts
-use Rattle.arrays.proofs.element.Reads as element-reads
-use Rattle.layout.proofs.layout_of.Reads as layout-of-reads
-use Rattle.samples.proofs.counts.raise_counts.Reads as raise-counts-reads
-use Rattle.samples.proofs.listed.report_listed.Reads as report-listed-reads
-use Rattle.samples.proofs.write.find.Reads as find-reads
 
 layout-of-requires : tie.Need-layout-of-requires
 layout-of-requires c κs = search needs
