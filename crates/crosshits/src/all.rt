@@ -38,7 +38,7 @@ pub fn put_cross_hits(
     let mut at = 0;
     let mut first = base;
     let mut start = 16;
-    let mut p = first_place(t);
+    let mut p = first_place(l);
     let mut c = 0;
     while c < n {
         let s = shape_of(t, plan, p);
