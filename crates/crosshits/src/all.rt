@@ -16,7 +16,7 @@ ghost use Rattle.model.specs.Format.{accepted, tableOf};
 ghost use Rattle.arrays.specs.Put.{put};
 ghost use Rattle.arrays.specs.Flat.{coverCounts, allPointCounters, allCrossCounters};
 ghost use Rattle.places.specs.Places.{placesFrom, Found};
-ghost use Rattle.crosses.specs.Marked.{markTotal, Marked};
+ghost use Rattle.crosses.specs.Marked.{Marked};
 
 // The counters of crosses that the sample hits. `found` has the hit cover bins of each point; `plan` has how many cover bins each point has, and from element 16 on the marks of all crosses.
 // `base` is the first counter of a cross; `list` is scratch. Answers how many they are.
