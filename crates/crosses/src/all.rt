@@ -41,7 +41,7 @@ pub fn put_crosses(
     let total = ask.total;
     let mut at = ask.at;
     let mut base = 0;
-    let mut p = first_place(t);
+    let mut p = first_place(l);
     let mut c = 0;
     while c < n {
         let s = shape_of(t, counts, p);

@@ -3,6 +3,7 @@ use crate::bins::put_label;
 use crate::order::first_place;
 use crate::order::next_place;
 use arrays::put_same;
+use layout::Layout;
 use layout::layout_of;
 use products::places::Place;
 use products::places::shape_of;
@@ -17,6 +18,7 @@ ghost use Rattle.model.specs.Register.{pointTotal};
 ghost use Rattle.model.specs.Format.{accepted, tableOf};
 ghost use Rattle.arrays.specs.Put.{put};
 ghost use Rattle.arrays.specs.Flat.{coverCounts, kindsOf, itemsOf, allCrossCounters};
+ghost use Rattle.layout.specs.Places.{layoutOf};
 ghost use Rattle.products.specs.Shapes.{Stands};
 ghost use Rattle.crosses.specs.Flags.{headsAt};
 ghost use Rattle.crosses.specs.Labels.{binLabels, crossLabels, shift, Labels};
@@ -84,18 +86,18 @@ fn put_all_labels(
     out: &mut [u8],
     cur: usize,
     t: &[u8],
+    l: Layout,
     counts: &[u16],
     e: Elements,
     each: bool,
 ) -> usize
-    requires { ⌜ (accepted (now t) ≡ true) × (take (pointTotal (tableOf (now t))) (now counts) ≡ coverCounts (tableOf (now t))) ⌝ }
+    requires { ⌜ (accepted (now t) ≡ true) × (l ≡ layoutOf (now t)) × (take (pointTotal (tableOf (now t))) (now counts) ≡ coverCounts (tableOf (now t))) ⌝ }
     requires { ⌜ (cur + length (allCrossCounters (tableOf (now t))) ≤ length (now out)) × (e .cover < 100) × (e .illegal < 100) × (e .product < 100) ⌝ }
     ensures { λ r. ⌜ r ≡ cur + length (allCrossCounters (tableOf (now (t .entry)))) ⌝ }
     ensures { λ _. ⌜ ((g : Counter → ℕ) → Labels g (e .cover) (e .illegal) (e .product) each → now (out .exit) ≡ put cur (map g (allCrossCounters (tableOf (now (t .entry))))) (now (out .entry))) ⌝ }
 {
-    let l = layout_of(t);
     let n = l.cross_count;
-    let mut p = first_place(t);
+    let mut p = first_place(l);
     let mut at = cur;
     let mut c = 0;
     while c < n {
@@ -118,12 +120,13 @@ pub fn put_cross_kinds(kinds: &mut [u8], cur: usize, t: &[u8], counts: &[u16]) -
     ensures { λ r. ⌜ r ≡ cur + length (allCrossCounters (tableOf (now (t .entry)))) ⌝ }
     ensures { λ _. ⌜ now (kinds .exit) ≡ put cur (kindsOf (allCrossCounters (tableOf (now (t .entry))))) (now (kinds .entry)) ⌝ }
 {
+    let l = layout_of(t);
     let e = Elements {
         cover: 5,
         illegal: 6,
         product: 7,
     };
-    put_all_labels(kinds, cur, t, counts, e, false)
+    put_all_labels(kinds, cur, t, l, counts, e, false)
 }
 
 // The item of each counter of a cross: crosses are numbered after the points.
@@ -139,5 +142,5 @@ pub fn put_cross_items(items: &mut [u8], cur: usize, t: &[u8], counts: &[u16]) -
         illegal: points,
         product: points,
     };
-    put_all_labels(items, cur, t, counts, e, true)
+    put_all_labels(items, cur, t, l, counts, e, true)
 }

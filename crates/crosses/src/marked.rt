@@ -23,7 +23,7 @@ pub fn mark_all(marks: &mut [u16], t: &[u8], counts: &[u16], plan: &[u64], lists
 {
     let l = layout_of(t);
     let n = l.cross_count;
-    let mut p = first_place(t);
+    let mut p = first_place(l);
     let mut at = 0;
     let mut c = 0;
     while c < n {

@@ -1,10 +1,12 @@
 // The crosses of a table in their order.
-use layout::layout_of;
+use layout::Layout;
 use products::places::Place;
 use words::bytes::byte;
 ghost use mathlib.Core.Path.{_≡_};
-ghost use Prim.Native.Nat.{_<_, _≤_, _+_, _*_};
+ghost use mathlib.Core.List.{List};
+ghost use Prim.Native.Nat.{ℕ, _<_, _≤_, _+_, _*_};
 ghost use Rattle.model.specs.Raw.{tokenTotal};
+ghost use Rattle.layout.specs.Places.{layoutOf};
 ghost use Rattle.products.specs.Shapes.{Stands};
 ghost use Rattle.crosses.specs.Order.{Nth};
 
@@ -24,10 +26,9 @@ fn token_total(t: &[u8], b: usize, n: usize) -> usize
 }
 
 // The place of the first.
-pub fn first_place(t: &[u8]) -> Place
-    ensures { λ r. ⌜ Nth (now (t .entry)) 0 r ⌝ }
+pub fn first_place(l: Layout) -> Place
+    ensures { λ r. ⌜ ((s : List ℕ) → l ≡ layoutOf s → Nth s 0 r) ⌝ }
 {
-    let l = layout_of(t);
     Place {
         number: 0,
         cross: l.crosses,

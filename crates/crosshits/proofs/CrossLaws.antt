@@ -1,14 +1,14 @@
 -- One cross: what its code writes, and that it is what the sample hits.
 -- Assumes nothing.
 use mathlib.Core.Path.{_≡_, refl, sym, ap, ap₂, _∙_, subst, fun-ext}
-use mathlib.Core.Bool.{Bool, true, false}
+use mathlib.Core.Bool.{Bool, true, false, and-false}
 use mathlib.Core.List.{List, [], _∷_, _++_, map}
-use Prim.Native.Nat.{ℕ, zero, suc, _+_, _-_, _/_, _≤_, _<_}
+use Prim.Native.Nat.{ℕ, suc, _+_, _-_, _/_, _≤_, _<_}
 use native.Mathlib.Omega.{arith}
-use lib.ListN.{length, getD, take, drop, replicate, length-replicate, length-append, length-map, length-take, length-drop}
+use lib.ListN.{length, getD, take, drop, drop-of-length-le, replicate, length-replicate, length-append, length-map, length-take, length-drop}
 use lib.Seq.{length-take-le, drop-drop, take-all, getD-take, getD-drop, ext-getD}
 use borrow.Rule.Slice.PartMut.{putMid}
-use Rattle.model.specs.Lists.{upFrom, all, asBit, pairUp}
+use Rattle.model.specs.Lists.{upFrom, all, asBit, orAll, pairUp}
 use Rattle.model.specs.Table.{Table, Kind, cover, ignore, illegal, default}
 use Rattle.model.specs.Counters.{CoverBin, Counter, tuples, products, crossCounters, productCount}
 use Rattle.model.specs.Sampling.{Stretches, guardTrue, coverHit, hits}
@@ -26,7 +26,7 @@ use Rattle.products.specs.Digits.{many}
 use Rattle.products.specs.Shapes.{sizesOf}
 use Rattle.products.specs.Marks.{Below, crossMark, crossMarks}
 use Rattle.products.proofs.Exact.{cross-placed, parts-are, sizes-parts, sizes-long}
-use Rattle.crosses.specs.Flags.{headsAt, maskOf, ownMarks, labelOf, binFlags, productFlag, productFlags, crossFlags}
+use Rattle.crosses.specs.Flags.{headsAt, maskOf, ownMarks, labelOf, binFlags, productFlags, crossFlags}
 use Rattle.crosses.specs.Labels.{binLabels}
 use Rattle.crosses.proofs.FlagsExact.{flags-length, flags-exact, counters-length}
 use Rattle.crosshits.specs.Numbers.{turnNumbers, numbersFrom, PartsFit, Ready}
@@ -128,6 +128,12 @@ module _ (w : List ℕ) where
       go ignore f = f n
       go illegal f = f (suc n)
       go default f = f n
+
+  -- no product counts
+  bins-idle : (hs : List CrossBinHead) → binFlags w false true 0 0 hs ≡ binFlags w false false 0 0 hs
+  unfolding binFlags
+  bins-idle [] = refl
+  bins-idle (h ∷ hs) = ap₂ (λ (b : ℕ) (fs : List ℕ). labelOf b b (h .kind) ++ fs) (ap asBit (and-false (guardTrue w (h .guard)))) (bins-idle hs)
 
 products-none : (n : ℕ) (hs ms : List ℕ) → placesFrom isSet n (productFlags false hs ms) ≡ []
 unfolding productFlags pairUp placesFrom
@@ -266,6 +272,13 @@ module _ (s w f a : List ℕ) (x : Cross) (given : Given s w f a x) where
       sym (both-parts true e m
       ∙ ap₂ (λ (y z : ℕ). placesFrom isSet (x .first) (binFlags w false true y z heads) ++ placesFrom isSet (x .first + length (binFlags w false true y z heads)) (productFlags true hs ms)) (listed (maskOf heads)) (listed 0)
       ∙ ap (placesFrom isSet (x .first) (binFlags w false true (listMarks (maskOf heads) a (x .start) hitNumbers) (listMarks 0 a (x .start) hitNumbers) heads) ++_) (own-rest (x .first + length (binFlags w false true (listMarks (maskOf heads) a (x .start) hitNumbers) (listMarks 0 a (x .start) hitNumbers) heads))))
+
+  pub none-listed : guardTrue w (guardFrom (byte s (x .place .cross + 5))) ≡ true → (n : ℕ) → n ≡ length hitNumbers → n ≡ 0 → (m : Stretches) → crossHits s w m x ≡ []
+  unfolding livePlaces liveFlags listMarks orAll ownPlaces
+  none-listed e n en z m =
+      sym (live-exact e m)
+      ∙ ap (λ (v : List ℕ). livePlaces s w a v x) (drop-of-length-le hitNumbers {i = 0} (omega arith))
+      ∙ ap₂ _++_ (ap (placesFrom isSet (x .first)) (bins-idle w heads) ∙ bins-none w (x .first) 0 0 heads) refl
 
   -- how many counters there are
   pub counters-room : (xs : List ℕ) → length (liveFlags s w a xs x) + productCount (tableOf s) (x .place .number) ≡ length (crossCounters (tableOf s) (x .place .number))

@@ -14,7 +14,7 @@ use Rattle.places.specs.Places.{placeIf, placesFrom, isSet}
 use Rattle.places.proofs.PlaceLaws.{one-place}
 use Rattle.crosses.specs.Flags.{ownMark, ownMarks, productFlag, productFlags}
 use Rattle.products.specs.Marks.{Below}
-use Rattle.crosshits.specs.Listed.{listMark, listMarks, ownPlaces}
+use Rattle.crosshits.specs.Listed.{listMarks, ownPlaces}
 
 taken-end : (n i : ℕ) (xs : List ℕ) → n ≤ i → drop i (take n xs) ≡ []
 taken-end n i xs h = let k : length (take n xs) ≤ i = simp length-take (omega arith) in drop-of-length-le (take n xs) k

@@ -16,7 +16,7 @@ ghost use Rattle.model.specs.Format.{accepted, tableOf};
 ghost use Rattle.arrays.specs.Put.{put};
 ghost use Rattle.arrays.specs.Flat.{coverCounts, allPointCounters, allCrossCounters};
 ghost use Rattle.places.specs.Places.{placesFrom, Found};
-ghost use Rattle.crosses.specs.Marked.{markTotal, Marked};
+ghost use Rattle.crosses.specs.Marked.{Marked};
 
 // The counters of crosses that the sample hits. `found` has the hit cover bins of each point; `plan` has how many cover bins each point has, and from element 16 on the marks of all crosses.
 // `base` is the first counter of a cross; `list` is scratch. Answers how many they are.
@@ -38,7 +38,7 @@ pub fn put_cross_hits(
     let mut at = 0;
     let mut first = base;
     let mut start = 16;
-    let mut p = first_place(t);
+    let mut p = first_place(l);
     let mut c = 0;
     while c < n {
         let s = shape_of(t, plan, p);

@@ -99,5 +99,8 @@ pub fn put_one(
         q: 0,
     };
     let n = put_numbers(list, t, found, s, y);
+    if n == 0 {
+        return at;
+    }
     put_live(hits, list, t, sample, plan, n, x)
 }

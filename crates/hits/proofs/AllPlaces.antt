@@ -104,6 +104,9 @@ module _ (t : Table) (w lens : List ℕ) where
       pub values-turn : Written 0 (allPlaces t w (runStretches lens)) l₀ at₁ l₁ (transitionPlaces t w lens i ++ placesAfter t w lens (i + 1) (n - (i + 1)))
       values-turn = written-turn 0 (allPlaces t w (runStretches lens)) l₀ at l (placesAfter t w lens i (n - i)) inv fits (valuePlaces t w i) _ (after-turn n i h) at₁ l₁ e₁ w₁
 
+      pub values-room : at₁ + 256 ≤ length l₁
+      values-room = room-left at₁ l₁ _ values-turn
+
       pub transitions-turn : (k : ℕ) (ys : List ℕ) → k ≡ length (transitionPlaces t w lens i) → length ys ≡ length (take (length l₁ - at₁) (drop at₁ l₁)) → ys ≡ put 0 (transitionPlaces t w lens i) (take (length l₁ - at₁) (drop at₁ l₁))
           → Written 0 (allPlaces t w (runStretches lens)) l₀ (at₁ + k) (putMid at₁ (length l₁ - at₁) l₁ ys) (placesAfter t w lens (i + 1) (n - (i + 1)))
       transitions-turn k ys ek kept e =

@@ -5,3 +5,4 @@ pub mod ValueExact
 pub mod Ready
 pub mod RowLaws
 pub mod AllPlaces
+pub mod Unmatched

@@ -153,7 +153,7 @@ some-true f d n [] b e = absurd (false-true (sym n ∙ e))
 some-true f d n (u ∷ us) zero e = or-left (f u) (any f us) e
 some-true f d n (u ∷ us) (suc b) e = or-right (f u) (any f us) (some-true f d n us b e)
 
-none-true : (f : ValueBin → Bool) (d : ValueBin) → f d ≡ false → (us : List ValueBin) → any f us ≡ false → (b : ℕ) → f (getD us b d) ≡ false
+pub none-true : {A : Type 0} (f : A → Bool) (d : A) → f d ≡ false → (us : List A) → any f us ≡ false → (b : ℕ) → f (getD us b d) ≡ false
 unfolding any
 none-true f d n [] e b = n
 none-true f d n (u ∷ us) e zero = or-false-left (f u) (any f us) e

@@ -2,8 +2,11 @@
 -- Assumes nothing.
 use Prim.Native.Nat.{ℕ, _+_, _<_}
 use mathlib.Core.Path.{_≡_}
+use mathlib.Core.Bool.{Bool, not}
 use mathlib.Core.List.{List, [], _++_, map}
+use lib.Dec.{eqb}
 use lib.ListN.{length, getD, take, drop}
+use Rattle.model.specs.Lists.{any}
 use Rattle.model.specs.Table.{Table}
 use Rattle.model.specs.Counters.{valueCounters, autoCounters, transitionCounters}
 use Rattle.model.specs.Sampling.{Stretches, hits}
@@ -24,6 +27,10 @@ transitionStart t p = pointStart t p + length (valueCounters t p 0 (t .valueBins
 -- of its transition bins, whose matched lengths are `lens`
 unfoldable pub transitionPlaces : Table → List ℕ → List ℕ → ℕ → List ℕ
 transitionPlaces t w lens p = placesFrom (hits t w (runStretches lens)) (transitionStart t p) (transitionCounters p 0 (t .transitionBins))
+
+-- some word of matched lengths is not 0
+unfoldable pub anyLength : List ℕ → Bool
+anyLength lens = any (λ x. not (eqb x 0)) lens
 
 -- of all points' counters
 unfoldable pub allPlaces : Table → List ℕ → Stretches → List ℕ

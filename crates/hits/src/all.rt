@@ -1,10 +1,13 @@
 // The places of all points' counters that a sample hits.
 use crate::bins::put_value_hits;
+use crate::transitions::any_length;
 use crate::transitions::put_transition_hits;
 use layout::layout_of;
 use points::readings::PointReading;
+use words::bytes::read2;
 ghost use mathlib.Core.Path.{_≡_};
 ghost use mathlib.Core.Bool.{true};
+ghost use mathlib.Core.List.{[]};
 ghost use Prim.Native.Nat.{_<_, _≤_, _+_, _*_};
 ghost use lib.ListN.{length, take, drop};
 ghost use Rattle.model.specs.Sampling.{reading};
@@ -48,7 +51,7 @@ fn put_values(
 }
 
 // Those of all points' counters: how many there are. After its rows, rows has where each point's counters begin, and where the last one's end.
-pub fn put_point_hits(
+fn put_matched(
     hits: &mut [u16],
     t: &[u8],
     sample: &[u32],
@@ -75,4 +78,50 @@ pub fn put_point_hits(
         p += 1;
     }
     at
+}
+
+// The same where no transition bin has a matched length: none of them is hit.
+fn put_unmatched(
+    hits: &mut [u16],
+    t: &[u8],
+    sample: &[u32],
+    readings: &[u64],
+    found: &[u16],
+    rows: &[u16],
+) -> usize
+    requires { ⌜ (accepted (now t) ≡ true) × Readings (tableOf (now t)) (now sample) (now readings) × (16 ≤ length (now readings)) × (length (allPointCounters (tableOf (now t))) + 256 ≤ length (now hits)) ⌝ }
+    requires { ⌜ Found (tableOf (now t)) (now sample) (now found) × (257 * pointTotal (tableOf (now t)) ≤ length (now found)) × PlaceRows (tableOf (now t)) (now rows) × (258 * pointTotal (tableOf (now t)) ≤ length (now rows)) ⌝ }
+    ensures { λ r. ⌜ (r ≡ length (allPlaces (tableOf (now (t .entry))) (now (sample .entry)) (runStretches []))) × (now (hits .exit) ≡ put 0 (allPlaces (tableOf (now (t .entry))) (now (sample .entry)) (runStretches [])) (now (hits .entry))) ⌝ }
+{
+    let n = read2(t, 0) as usize;
+    let mut at = 0;
+    let mut p: usize = 0;
+    while p < n {
+        let code = readings[p];
+        let point = p as u8;
+        let own = PointReading { point, code };
+        at = put_values(hits, at, t, sample, found, rows, own);
+        p += 1;
+    }
+    at
+}
+
+// The same, whether or not a bin has a matched length.
+pub fn put_point_hits(
+    hits: &mut [u16],
+    t: &[u8],
+    sample: &[u32],
+    readings: &[u64],
+    lens: &[u32],
+    found: &[u16],
+    rows: &[u16],
+) -> usize
+    requires { ⌜ (accepted (now t) ≡ true) × Readings (tableOf (now t)) (now sample) (now readings) × (16 ≤ length (now readings)) × (64 ≤ length (now lens)) × (length (allPointCounters (tableOf (now t))) + 256 ≤ length (now hits)) ⌝ }
+    requires { ⌜ Found (tableOf (now t)) (now sample) (now found) × (257 * pointTotal (tableOf (now t)) ≤ length (now found)) × PlaceRows (tableOf (now t)) (now rows) × (take (pointTotal (tableOf (now t)) + 1) (drop (258 * pointTotal (tableOf (now t))) (now rows)) ≡ pointStarts (tableOf (now t))) × (258 * pointTotal (tableOf (now t)) + 17 ≤ length (now rows)) ⌝ }
+    ensures { λ r. ⌜ (r ≡ length (allPlaces (tableOf (now (t .entry))) (now (sample .entry)) (runStretches (take (length (tableOf (now (t .entry)) .transitionBins)) (now (lens .entry)))))) × (now (hits .exit) ≡ put 0 (allPlaces (tableOf (now (t .entry))) (now (sample .entry)) (runStretches (take (length (tableOf (now (t .entry)) .transitionBins)) (now (lens .entry))))) (now (hits .entry))) ⌝ }
+{
+    if any_length(lens) {
+        return put_matched(hits, t, sample, readings, lens, found, rows);
+    }
+    put_unmatched(hits, t, sample, readings, found, rows)
 }

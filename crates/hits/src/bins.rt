@@ -1,5 +1,5 @@
 // The places of a point's value bins and auto bins that a sample hits.
-use crate::found::put_found;
+use crate::covers::put_found;
 use crate::plains::put_plain_hits;
 use layout::layout_of;
 use points::readings::PointReading;

@@ -1,6 +1,6 @@
 // The places of the points' counters that a sample hits.
 pub mod all;
 pub mod bins;
-mod found;
+mod covers;
 mod plains;
 pub mod transitions;

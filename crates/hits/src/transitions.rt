@@ -13,7 +13,20 @@ ghost use Rattle.model.specs.Register.{pointTotal};
 ghost use Rattle.arrays.specs.Put.{put};
 ghost use Rattle.arrays.specs.Flat.{readingCode};
 ghost use Rattle.points.specs.Hits.{Sampled};
-ghost use Rattle.hits.specs.Places.{transitionStart, transitionPlaces};
+ghost use Rattle.hits.specs.Places.{anyLength, transitionStart, transitionPlaces};
+
+// Some bin has a matched length.
+pub fn any_length(lens: &[u32]) -> bool
+    ensures { λ r. ⌜ r ≡ anyLength (now (lens .entry)) ⌝ }
+{
+    let mut some = false;
+    let mut i = 0;
+    while i < lens.len() {
+        some = some | (lens[i] != 0);
+        i += 1;
+    }
+    some
+}
 
 // By the places of the layout. lens: the matched lengths of each transition bin; end: where the counters of the point's transition bins end.
 pub fn put_transition_hits(

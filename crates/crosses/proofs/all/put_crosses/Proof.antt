@@ -53,7 +53,7 @@ loop-holds c =
     let z = from-start t (l .result .«cross_count») n in (
       omega arith,
       n,
-      c .first-place .ensures,
+      c .first-place .ensures (a .t .now) (l .ensures .0),
       refl,
       length-replicate {A = ℕ} 2048 0,
       start-none t,

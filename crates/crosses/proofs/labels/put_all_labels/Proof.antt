@@ -25,83 +25,77 @@ Inv-loop out₀ cur t counts e each n p₀ at₀ c₀ out p at c =
 abbrev μ-loop : tie.MeasureT-loop
 μ-loop out₀ cur t counts e each n p₀ at₀ c₀ out p at c = n - c
 
-layout-of-requires : tie.Need-layout-of-requires Inv-loop μ-loop
-layout-of-requires c κs = tt
-
 first-place-requires : tie.Need-first-place-requires Inv-loop μ-loop
 first-place-requires c κs = tt
 
 loop-holds : tie.Need-loop-holds Inv-loop μ-loop
 loop-holds c =
-    let a = c .before .before .before .before .before .args in
-    let l = c .before .layout-of in
-    let n = count-crosses (a .t .now) (c .before .before .before .before .before .pre .0 .0) (l .result) (l .ensures .0) in
-    let z = from-start (tableOf (a .t .now)) (l .result .«cross_count») n in (
+    let a = c .before .before .before .before .args in
+    let e = c .before .before .before .before .pre .0 .1 in
+    let n = count-crosses (a .t .now) (c .before .before .before .before .pre .0 .0) (a .l) e in
+    let z = from-start (tableOf (a .t .now)) (a .l .«cross_count») n in (
       omega arith,
       n,
-      c .first-place .ensures,
+      c .first-place .ensures (a .t .now) e,
       refl,
       ap (λ (cs : List Counter). a .cur + length cs) z,
       λ g k. ap (λ (cs : List Counter). put (a .cur) (map g cs) (a .out .now)) z,
     )
 
 shift-of-requires : tie.Need-shift-of-requires Inv-loop μ-loop
-shift-of-requires c κs = omega (arith, c .before .loop .inv .1, c .loop-test .taken, few-crosses (c .before .before .before .before .before .before .before .args .t .now) (c .before .before .before .before .before .before .before .pre .0 .0))
+shift-of-requires c κs = omega (arith, c .before .loop .inv .1, c .loop-test .taken, few-crosses (c .before .before .before .before .before .before .args .t .now) (c .before .before .before .before .before .before .pre .0 .0))
 
 add-t15 : tie.Need-add-t15 Inv-loop μ-loop
-add-t15 c = omega (arith, c .before .before .before .before .before .before .before .before .before .pre .1 .1, c .before .shift-of .ensures .1)
+add-t15 c = omega (arith, c .before .before .before .before .before .before .before .before .pre .1 .1, c .before .shift-of .ensures .1)
 
 add-t16 : tie.Need-add-t16 Inv-loop μ-loop
-add-t16 c = omega (arith, c .before .before .before .before .before .before .before .before .before .before .pre .1 .2, c .before .before .shift-of .ensures .1)
+add-t16 c = omega (arith, c .before .before .before .before .before .before .before .before .before .pre .1 .2, c .before .before .shift-of .ensures .1)
 
 add-t17 : tie.Need-add-t17 Inv-loop μ-loop
-add-t17 c = omega (arith, c .before .before .before .before .before .before .before .before .before .before .before .pre .1 .3, c .before .before .before .shift-of .ensures .1)
+add-t17 c = omega (arith, c .before .before .before .before .before .before .before .before .before .before .pre .1 .3, c .before .before .before .shift-of .ensures .1)
 
 put-cross-labels-requires : tie.Need-put-cross-labels-requires Inv-loop μ-loop
 put-cross-labels-requires c κs =
-    let a = c .before .before .before .before .before .before .before .before .before .before .before .before .args in
-    let pre = c .before .before .before .before .before .before .before .before .before .before .before .before .pre in
+    let a = c .before .before .before .before .before .before .before .before .before .before .before .args in
+    let pre = c .before .before .before .before .before .before .before .before .before .before .before .pre in
     let s = a .t .now in
     let t = tableOf s in
     let l = c .before .before .before .before .before .before .loop in
     let i = l .inv in
     let h = c .before .before .before .before .before .loop-test .taken in
-    let n = c .before .before .before .before .before .before .before .before .layout-of .result .«cross_count» in
+    let n = a .l .«cross_count» in
     let stands = nth-stands s (pre .0 .0) (l .c) (l .p) (omega (arith, h, i .1)) (i .2) in
     let d = c .before .before .before .before .shift-of .result in
     let z = length-labels s (l .p) stands (a .e .cover + d) (a .e .illegal + d) (a .e .product + d) in
     let same = ap (λ (x : ℕ). length (crossCounters t x)) (i .2 .number) in
-    ((stands, pre .0 .1), omega (arith, from-length t n (l .c) h, z, same, i .3, i .4, pre .1 .0))
+    ((stands, pre .0 .2), omega (arith, from-length t n (l .c) h, z, same, i .3, i .4, pre .1 .0))
 
 next-place-requires : tie.Need-next-place-requires Inv-loop μ-loop
 next-place-requires c κs =
-    let a = c .before .before .before .before .before .before .before .before .before .before .before .before .before .before .before .args in
-    let pre = c .before .before .before .before .before .before .before .before .before .before .before .before .before .before .before .pre in
+    let a = c .before .before .before .before .before .before .before .before .before .before .before .before .before .before .args in
+    let pre = c .before .before .before .before .before .before .before .before .before .before .before .before .before .before .pre in
     let s = a .t .now in
-    let t = tableOf s in
     let l = c .before .before .before .before .before .before .before .before .before .loop in
     let i = l .inv in
     let h = c .before .before .before .before .before .before .before .before .loop-test .taken in
-    let n = c .before .before .before .before .before .before .before .before .before .before .before .layout-of .result .«cross_count» in
-    let stands = nth-stands s (pre .0 .0) (l .c) (l .p) (omega (arith, h, i .1)) (i .2) in
-    stands
+    nth-stands s (pre .0 .0) (l .c) (l .p) (omega (arith, h, i .1)) (i .2)
 
 add-c : tie.Need-add-c Inv-loop μ-loop
-add-c c = omega (arith, c .before .before .before .before .before .before .before .before .before .before .loop .inv .1, c .before .before .before .before .before .before .before .before .before .loop-test .taken, few-crosses (c .before .before .before .before .before .before .before .before .before .before .before .before .before .before .before .before .args .t .now) (c .before .before .before .before .before .before .before .before .before .before .before .before .before .before .before .before .pre .0 .0))
+add-c c = omega (arith, c .before .before .before .before .before .before .before .before .before .before .loop .inv .1, c .before .before .before .before .before .before .before .before .before .loop-test .taken, few-crosses (c .before .before .before .before .before .before .before .before .before .before .before .before .before .before .before .args .t .now) (c .before .before .before .before .before .before .before .before .before .before .before .before .before .before .before .pre .0 .0))
 
 loop-less : tie.Need-loop-less Inv-loop μ-loop
 loop-less c = omega (arith, c .before .before .before .before .before .before .before .before .before .loop-test .taken)
 
 loop-again : tie.Need-loop-again Inv-loop μ-loop
 loop-again c =
-    let a = c .before .before .before .before .before .before .before .before .before .before .before .before .before .before .before .before .args in
-    let pre = c .before .before .before .before .before .before .before .before .before .before .before .before .before .before .before .before .pre in
+    let a = c .before .before .before .before .before .before .before .before .before .before .before .before .before .before .before .args in
+    let pre = c .before .before .before .before .before .before .before .before .before .before .before .before .before .before .before .pre in
     let s = a .t .now in
     let t = tableOf s in
     let l = c .before .before .before .before .before .before .before .before .before .before .loop in
     let i = l .inv in
     let h = c .before .before .before .before .before .before .before .before .before .loop-test .taken in
-    let n = c .before .before .before .before .before .before .before .before .before .before .before .before .layout-of .result .«cross_count» in
+    let n = a .l .«cross_count» in
     let stands = nth-stands s (pre .0 .0) (l .c) (l .p) (omega (arith, h, i .1)) (i .2) in
     let d = c .before .before .before .before .before .before .before .before .shift-of in
     let q = c .before .before .before .put-cross-labels in
@@ -133,8 +127,9 @@ returns : tie.Need-returns Inv-loop μ-loop
 returns c =
     let l = c .before .loop in
     let i = l .inv in
-    let n = c .before .before .before .layout-of .result .«cross_count» in
-    let t = tableOf (c .before .before .before .before .before .before .before .args .t .now) in
+    let a = c .before .before .before .before .before .before .args in
+    let n = a .l .«cross_count» in
+    let t = tableOf (a .t .now) in
     let z = from-end t n (l .c) (c .loop-test .left) in
     (omega (arith, i .4, ap length z), λ g y. map-end t n (l .c) (l .at) (l .out) g (c .loop-test .left) ∙ i .5 g y)
 
@@ -144,7 +139,6 @@ put-all-labels-spec =
     (tie.spec
     Inv-loop
     μ-loop
-    layout-of-requires
     first-place-requires
     loop-holds
     shift-of-requires

@@ -27,7 +27,7 @@ put-all-labels-requires c κs =
     let l = c .before .before .layout-of in
     let e = count-points (a .t .now) (p .0) (l .result) (l .ensures .0) in
     let few = few-points (a .t .now) (p .0) in
-    ((p .0, p .1), (p .2, omega (arith, e, few), omega (arith, e, few), omega (arith, e, few)))
+    ((p .0, l .ensures .0, p .1), (p .2, omega (arith, e, few), omega (arith, e, few), omega (arith, e, few)))
 
 same-length : tie.Need-same-length
 same-length c = search needs

@@ -32,7 +32,7 @@ loop-holds c =
     let a = c .before .before .before .before .before .before .before .args in
     let l = c .before .layout-of in
     let t = tableOf (a .t .now) in
-    (omega arith, count-crosses (a .t .now) (c .before .before .before .before .before .before .before .pre .0) (l .result) (l .ensures .0), c .first-place .ensures, refl, start-none t, marked-none t (a .marks .now))
+    (omega arith, count-crosses (a .t .now) (c .before .before .before .before .before .before .before .pre .0) (l .result) (l .ensures .0), c .first-place .ensures (a .t .now) (l .ensures .0), refl, start-none t, marked-none t (a .marks .now))
 
 shape-of-requires : tie.Need-shape-of-requires Inv-loop μ-loop
 shape-of-requires c κs =

@@ -43,7 +43,7 @@ loop-holds c =
     let l = c .before .layout-of in
     let n = count-crosses s (c .before .before .before .before .before .before .before .before .pre .0 .0) (l .result) (l .ensures .0) in
     let z = from-start (tableOf s) (l .result .«cross_count») n in
-    (omega arith, n, c .first-place .ensures, refl, refl, ap (16 +_) (start-none (tableOf s)), ap (λ (cs : List Counter). a .base + length cs) z, omega arith, λ m. written-start 0 (placesFrom (hits (tableOf s) (a .sample .now) m) (a .base) (allCrossCounters (tableOf s))) _ (a .hits .now) (ap (placesFrom (hits (tableOf s) (a .sample .now) m) (a .base)) z))
+    (omega arith, n, c .first-place .ensures s (l .ensures .0), refl, refl, ap (16 +_) (start-none (tableOf s)), ap (λ (cs : List Counter). a .base + length cs) z, omega arith, λ m. written-start 0 (placesFrom (hits (tableOf s) (a .sample .now) m) (a .base) (allCrossCounters (tableOf s))) _ (a .hits .now) (ap (placesFrom (hits (tableOf s) (a .sample .now) m) (a .base)) z))
 
 shape-of-requires : tie.Need-shape-of-requires Inv-loop μ-loop
 shape-of-requires c κs =

@@ -3,7 +3,6 @@ use Rattle.hits.proofs.PlainLaws.{not-plain, default-hit, illegal-hit}
 use borrow.Author.Needs.{needs}
 use Rattle.hits.proofs.plains.plain_hit.Statement.{statement}
 use Rattle.hits.proofs.plains.plain_hit.Tie as tie
-use Rattle.words.proofs.bytes.read2.Reads as read2-reads
 
 returns : tie.Need-returns
 returns c =

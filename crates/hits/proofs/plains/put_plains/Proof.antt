@@ -9,7 +9,6 @@ use Rattle.hits.specs.Plains.{plainHits}
 use Rattle.hits.proofs.PlainLaws.{plains-start, plains-turn, plains-end}
 use Rattle.hits.proofs.plains.put_plains.Statement.{statement}
 use Rattle.hits.proofs.plains.put_plains.Tie as tie
-use Rattle.words.proofs.bytes.read2.Reads as read2-reads
 
 abbrev Inv-loop : tie.InvT-loop
 Inv-loop hits₀ t sample plains h a n c₀ j₀ at₀ i₀ hits c j at i =

@@ -5,8 +5,8 @@ use lib.ListN.{length, take, drop, length-set}
 use Rattle.arrays.specs.Put.{put}
 use Rattle.hits.specs.Places.{elementsAt, Inside}
 use Rattle.hits.proofs.FoundLaws.{elements-start, elements-turn, elements-end}
-use Rattle.hits.proofs.found.put_found.Statement.{statement}
-use Rattle.hits.proofs.found.put_found.Tie as tie
+use Rattle.hits.proofs.covers.put_found.Statement.{statement}
+use Rattle.hits.proofs.covers.put_found.Tie as tie
 
 abbrev Inv-loop : tie.InvT-loop
 Inv-loop hits₀ found places n i₀ hits i =
