@@ -8,6 +8,7 @@ use lib.Dec.{eqb}
 use lib.ListN.{length}
 use Rattle.model.specs.Format.{got, byte, readTable}
 use Rattle.model.specs.Raw.{rawTable}
+use Rattle.layout.specs.declared.Layout.{Layout}
 
 -- The bytes passed all tests before refusal 6, and are read as the table by places.
 abbrev pub Readable : List ℕ → Type 0
@@ -37,6 +38,10 @@ crossKinds s v (c, b) = walkSum 0 (isByte s v) (after 3) b (byte s (c + 12))
 
 abbrev pub nextCross : List ℕ → ℕ × ℕ → ℕ × ℕ
 nextCross s (c, b) = (c + 13, b + 3 * byte s (c + 12))
+
+-- the illegal bins of all crosses of a table with that layout
+abbrev pub crossIllegals : List ℕ → Layout → ℕ
+crossIllegals s l = walkSum 0 (crossKinds s 2) (nextCross s) (l .crosses, l .«cross_bins») (l .«cross_count»)
 
 -- ---- transition bins: a bin's place, where its sequences begin, and where their steps begin
 
