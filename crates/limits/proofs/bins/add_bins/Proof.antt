@@ -44,15 +44,15 @@ add-bin-requires c κs =
     let a = c .before .before .before .before .before .before .before .before .before .args in
     let l = c .before .before .before .before .loop in
     let f = bins-first (a .t .now) (a .l .«point_count») (l .b) (l .r) (a .l .«bin_count») (l .i) (l .inv .6) (search needs) in (
-      (search needs, search needs, search needs, omega (arith, f .0), c .before .before .before .before .before .before .before .before .before .pre .0 .5 _ (f .0)),
+      (search needs, search needs, search needs, omega (arith, f .0), c .before .before .before .before .before .before .before .before .before .pre .0 .5 _ (f .0), search needs),
       (f .1, (entries-up _ 50000000 _ (l .inv .3) (search needs), entries-up _ 1000 _ (l .inv .4) (search needs), entries-up _ 1000 _ (l .inv .5) (search needs))),
     )
 
-add-read2 : tie.Need-add-read2 Inv-loop μ-loop
-add-read2 c = search needs
+add-whole2 : tie.Need-add-whole2 Inv-loop μ-loop
+add-whole2 c = search needs
 
-read2-requires : tie.Need-read2-requires Inv-loop μ-loop
-read2-requires c κs = search needs
+whole2-requires : tie.Need-whole2-requires Inv-loop μ-loop
+whole2-requires c κs = search needs
 
 add-b : tie.Need-add-b Inv-loop μ-loop
 add-b c = search needs
@@ -77,7 +77,7 @@ loop-again c =
     let a = c .before .before .before .before .before .before .before .before .before .before .before .before .before .before .before .before .before .args in
     let l = c .before .before .before .before .before .before .before .before .before .before .before .before .loop in
     let e = c .before .before .before .before .before .before .before .add-bin .ensures in
-    let r = ap (λ (k : ℕ). l .r + 17 * k) (c .read2 .ensures) in
+    let r = ap (λ (k : ℕ). l .r + 17 * k) (c .whole2 .ensures) in
     let kind = kindFrom (byte (a .t .now) (l .b + 1)) in (
       search needs,
       search needs,
@@ -122,8 +122,8 @@ add-bins-spec =
     μ-loop
     loop-holds
     add-bin-requires
-    add-read2
-    read2-requires
+    add-whole2
+    whole2-requires
     add-b
     cast-r
     mul-r

@@ -13,7 +13,7 @@ add-bins-requires c κs =
     let a = c .before .before .before .before .before .before .args in
     let q = c .before .before .before .before .before .before .pre .0 in
     let p = bins-ready (a .t .now) (a .l) (q .1) (q .2) (q .0) in (
-      (p .0, p .1, p .2, p .3, p .4, p .5),
+      (p .0, p .1, p .2, p .3, p .4, p .5, p .6),
       (bins-there (a .t .now) (a .l) (q .1) (q .2) (q .0), (c .before .before .before .before .before .before .pre .1 .0, c .before .before .before .before .before .before .pre .1 .1, entries-none)),
     )
 
