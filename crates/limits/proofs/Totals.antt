@@ -19,7 +19,7 @@ use Rattle.model.proofs.Readers.{All}
 use Rattle.model.proofs.WellFormed.{InPoints}
 use Rattle.layout.specs.Places.{layoutOf}
 use Rattle.layout.specs.declared.Layout.{Layout}
-use Rattle.limits.specs.Walks.{Readable, walkSum, after, isByte, crossKinds, nextCross, crossIllegals, mostsIn, nextTransition}
+use Rattle.limits.specs.Walks.{Readable, walkSum, after, isByte, valueIllegals, crossKinds, nextCross, crossIllegals, mostsIn, nextTransition}
 use Rattle.limits.specs.Bins.{here, countersIn, pointFits, crossProducts, crossFits}
 use Rattle.limits.specs.Tallies.{Counted, CountersOf}
 use Rattle.model.proofs.Measure.{illegalsOf, crossSum, sum-add, sum-same, illegal-total, run-total, counter-total}
@@ -54,7 +54,7 @@ crosses-inside s known = subst (λ (n : ℕ). All (λ x. InPoints n (x .points))
 
 module _ (s : List ℕ) (l : Layout) (laid : l ≡ layoutOf s) where
   pub illegal-sum : Readable s → (a b c : ℕ)
-      → a ≡ walkSum 0 (isByte s 2) (after 8) (l .bins + 1) (l .«bin_count»)
+      → a ≡ valueIllegals s l
       → b ≡ walkSum 0 (isByte s 2) (after 4) (l .transitions + 1) (l .«transition_count»)
       → c ≡ crossIllegals s l
       → a + b + c ≡ illegalTotal (rawTable s)
@@ -62,7 +62,7 @@ module _ (s : List ℕ) (l : Layout) (laid : l ≡ layoutOf s) where
   illegal-sum known a b c ea eb ec =
       ap₂ _+_
       (ap₂ _+_
-      (ea ∙ ap (λ (l : Layout). walkSum 0 (isByte s 2) (after 8) (l .bins + 1) (l .«bin_count»)) laid ∙ sym (bins-kinds s illegalsOf 2 illegal-byte (recordsPlace s 1) (recordsPlace s 2) (recordCount s 1)))
+      (ea ∙ ap (valueIllegals s) laid ∙ sym (bins-kinds s illegalsOf 2 illegal-byte (recordsPlace s 1) (recordsPlace s 2) (recordCount s 1)))
       (eb ∙ ap (λ (l : Layout). walkSum 0 (isByte s 2) (after 4) (l .transitions + 1) (l .«transition_count»)) laid
       ∙ sym (transitions-kinds s illegalsOf 2 illegal-byte (recordsPlace s 3) (recordsPlace s 4) (recordsPlace s 5) (recordsPlace s 6) (recordCount s 3))))
       (ec ∙ ap (crossIllegals s) laid

@@ -30,6 +30,10 @@ byteAt s at = byte s at
 abbrev pub isByte : List ℕ → ℕ → ℕ → ℕ
 isByte s v at = cond (eqb (byte s at) v) 1 0
 
+-- the illegal value bins of a table with that layout
+abbrev pub valueIllegals : List ℕ → Layout → ℕ
+valueIllegals s l = walkSum 0 (isByte s 2) (after 8) (l .bins + 1) (l .«bin_count»)
+
 -- ---- crosses and their bins: a cross's place, and where its bins begin
 
 -- how many bins of the cross are of the kind whose byte is v

@@ -1,5 +1,6 @@
 // What the value bins add to the entries of their points, in one pass.
 use crate::entries::add;
+use crate::sums::one_if;
 use crate::values::per_value;
 use layout::Layout;
 use words::bytes::inside;
@@ -13,6 +14,7 @@ ghost use Rattle.model.specs.Format.{byte, kindFrom, pointRecord};
 ghost use Rattle.model.specs.Ranges.{rangeCount, coversOf, countersOf};
 ghost use Rattle.model.specs.Raw.{binAt, binsAt};
 ghost use Rattle.ranges.specs.Types.{Wide, AllWide};
+ghost use Rattle.limits.specs.Walks.{valueIllegals};
 ghost use Rattle.limits.specs.Bins.{spannedBy, formAt, ownRanges, more, added, Entries, countable, binPoint, binCovers, binSingles, barsOf, binBars};
 
 // How many bins the value bin at b stands for, whose ranges are from r on; 257 if a bin per value makes more.
@@ -85,8 +87,14 @@ fn add_bin(
     add(bars, p, bar_of(kind));
 }
 
-// The value bins of a table with that layout.
-pub fn add_bins(covers: &mut [u32], singles: &mut [u32], bars: &mut [u32], t: &[u8], l: Layout)
+// The value bins of a table with that layout; and how many of them are illegal bins.
+pub fn add_bins(
+    covers: &mut [u32],
+    singles: &mut [u32],
+    bars: &mut [u32],
+    t: &[u8],
+    l: Layout,
+) -> usize
     requires { ⌜ (l .points ≤ 16777216) × (l .«point_count» ≤ 16) × (l .bins ≤ 16777216) × (l .ranges ≤ 16777216) × (l .«bin_count» ≤ 512) × AllWide (now t) (l .points) (l .«point_count») × (l .bins + 8 * l .«bin_count» ≤ length (now t)) ⌝ }
     requires { ⌜ all (countable (l .«point_count»)) (binsAt (now t) (l .bins) (l .ranges) (l .«bin_count»)) ≡ true ⌝ }
     requires { ⌜ Entries 0 (now covers) × Entries 0 (now singles) × Entries 0 (now bars) ⌝ }
@@ -94,16 +102,21 @@ pub fn add_bins(covers: &mut [u32], singles: &mut [u32], bars: &mut [u32], t: &[
     ensures { λ _. ⌜ now (singles .exit) ≡ added binPoint binSingles (binsAt (now (t .entry)) (l .bins) (l .ranges) (l .«bin_count»)) (now (singles .entry)) ⌝ }
     ensures { λ _. ⌜ now (bars .exit) ≡ added binPoint binBars (binsAt (now (t .entry)) (l .bins) (l .ranges) (l .«bin_count»)) (now (bars .entry)) ⌝ }
     ensures { λ _. ⌜ Entries (65535 * l .«bin_count») (now (covers .exit)) × Entries (l .«bin_count») (now (singles .exit)) × Entries (l .«bin_count») (now (bars .exit)) ⌝ }
+    ensures { λ r. ⌜ (r ≡ valueIllegals (now (t .entry)) l) × (r ≤ l .«bin_count») ⌝ }
 {
     let n = l.bin_count;
+    let mut illegals: usize = 0;
     let mut b = l.bins;
     let mut r = l.ranges;
     let mut i = 0;
     while i < n {
         add_bin(covers, singles, bars, t, l.points, b, r);
+        let kind = inside(t, b + 1);
         let owned = whole2(t, b + 6);
+        illegals += one_if(kind == 2);
         b += 8;
         r += 17 * owned as usize;
         i += 1;
     }
+    illegals
 }

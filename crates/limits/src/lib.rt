@@ -25,7 +25,7 @@ ghost use Rattle.model.specs.Counters.{withinLimits};
 ghost use Rattle.model.specs.Raw.{rawTable};
 ghost use Rattle.model.specs.Register.{illegalTotal};
 ghost use Rattle.layout.specs.Places.{layoutOf, Small};
-ghost use Rattle.limits.specs.Walks.{Readable, crossIllegals};
+ghost use Rattle.limits.specs.Walks.{Readable, valueIllegals, crossIllegals};
 ghost use Rattle.limits.specs.Tallies.{Tallied, Counted, CountersOf};
 
 // All counters; they fit if at most 256 are a point's and at most 1,024 products a cross's. illegals: the crosses' illegal bins.
@@ -43,13 +43,12 @@ fn counter_total(covers: &[u32], singles: &[u32], t: &[u8], l: Layout, illegals:
     }
 }
 
-// The illegal counters, those of the crosses among them: the words of a report.
-fn illegal_total(t: &[u8], l: Layout, crosses: usize) -> usize
+// The illegal counters: those of value bins, of transition bins and of crosses, the words of a report.
+fn illegal_total(t: &[u8], l: Layout, values: usize, crosses: usize) -> usize
     requires { ⌜ Readable (now t) × (l ≡ layoutOf (now t)) × Small l ⌝ }
-    requires { ⌜ (crosses ≡ crossIllegals (now t) l) × (crosses ≤ 16777216) ⌝ }
+    requires { ⌜ (values ≡ valueIllegals (now t) l) × (values ≤ 512) × (crosses ≡ crossIllegals (now t) l) × (crosses ≤ 16777216) ⌝ }
     ensures { λ r. ⌜ r ≡ illegalTotal (rawTable (now (t .entry))) ⌝ }
 {
-    let values = count_bytes(t, l.bins + 1, 8, l.bin_count, 2);
     let transitions = count_bytes(t, l.transitions + 1, 4, l.transition_count, 2);
     values + transitions + crosses
 }
@@ -61,11 +60,11 @@ pub fn tally(t: &[u8]) -> Tally
     let l = layout_of(t);
     let mut covers: [u32; 16] = [0; 16];
     let mut singles: [u32; 16] = [0; 16];
-    count_points(&mut covers, &mut singles, t, l);
+    let values = count_points(&mut covers, &mut singles, t, l);
     let crosses = cross_kinds(t, l.crosses, l.cross_bins, l.cross_count, 2);
     let counters = counter_total(&covers, &singles, t, l, crosses);
     let runs = mosts(t, l.transitions, l.sequences, l.steps, l.transition_count);
-    let illegals = illegal_total(t, l, crosses);
+    let illegals = illegal_total(t, l, values, crosses);
     Tally {
         fits: counters.fits,
         counters: counters.total,

@@ -17,7 +17,7 @@ ghost use Rattle.model.specs.Format.{pointRecord};
 ghost use Rattle.model.specs.Raw.{rows};
 ghost use Rattle.ranges.specs.Types.{Wide, AllWide};
 ghost use Rattle.layout.specs.Places.{layoutOf, Small};
-ghost use Rattle.limits.specs.Walks.{Readable, walkSum, after};
+ghost use Rattle.limits.specs.Walks.{Readable, walkSum, after, valueIllegals};
 ghost use Rattle.limits.specs.Bins.{added, Entries, here, autosAt, countersIn, pointFits};
 ghost use Rattle.limits.specs.Tallies.{Counted};
 
@@ -57,16 +57,17 @@ fn add_autos(covers: &mut [u32], bars: &[u32], t: &[u8], points: usize, n: usize
     }
 }
 
-// The cover bins and the other counters of every point.
-pub fn count_points(covers: &mut [u32], singles: &mut [u32], t: &[u8], l: Layout)
+// The cover bins and the other counters of every point; and how many value bins are illegal bins.
+pub fn count_points(covers: &mut [u32], singles: &mut [u32], t: &[u8], l: Layout) -> usize
     requires { ⌜ Readable (now t) × (l ≡ layoutOf (now t)) × Small l ⌝ }
     requires { ⌜ Entries 0 (now covers) × Entries 0 (now singles) ⌝ }
-    ensures { λ _. ⌜ Counted (now (t .entry)) (now (covers .exit)) (now (singles .exit)) ⌝ }
+    ensures { λ r. ⌜ Counted (now (t .entry)) (now (covers .exit)) (now (singles .exit)) × (r ≡ valueIllegals (now (t .entry)) l) × (r ≤ 512) ⌝ }
 {
     let mut bars: [u32; 16] = [0; 16];
-    add_bins(covers, singles, &mut bars, t, l);
+    let illegals = add_bins(covers, singles, &mut bars, t, l);
     add_transitions(singles, &mut bars, t, l.transitions, l.transition_count);
     add_autos(covers, &bars, t, l.points, l.point_count);
+    illegals
 }
 
 // The counters of all points; they fit if no point has more than 256.

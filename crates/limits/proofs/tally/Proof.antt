@@ -33,7 +33,7 @@ counter-total-requires : tie.Need-counter-total-requires
 counter-total-requires c κs =
     let l = c .before .before .before .before .before .before .before .before .layout-of .ensures in
     let crosses = c .before .before .cross-kinds .ensures in
-    ((c .before .before .before .before .before .before .before .before .before .before .pre, l .0, l .1), (c .before .before .before .before .before .count-points .ensures, crosses .0, search needs))
+    ((c .before .before .before .before .before .before .before .before .before .before .pre, l .0, l .1), (c .before .before .before .before .before .count-points .ensures .0, crosses .0, search needs))
 
 mosts-requires : tie.Need-mosts-requires
 mosts-requires c κs = search needs
@@ -42,7 +42,8 @@ illegal-total-requires : tie.Need-illegal-total-requires
 illegal-total-requires c κs =
     let l = c .before .before .before .before .before .before .before .before .before .before .layout-of .ensures in
     let crosses = c .before .before .before .before .cross-kinds .ensures in
-    ((c .before .before .before .before .before .before .before .before .before .before .before .before .pre, l .0, l .1), (crosses .0, search needs))
+    let counted = c .before .before .before .before .before .before .before .count-points .ensures in
+    ((c .before .before .before .before .before .before .before .before .before .before .before .before .pre, l .0, l .1), (counted .1, counted .2, crosses .0, search needs))
 
 returns : tie.Need-returns
 returns c =
