@@ -1,8 +1,10 @@
 // Section 9: cross bins.
 use words::bytes::byte;
+use words::bytes::inside;
 use words::counts::owned_count;
 use words::guards::bin_guard_ok;
 use words::verdicts::Verdict;
+use words::verdicts::fault;
 use words::verdicts::sound;
 use words::verdicts::test;
 ghost use mathlib.Core.Path.{_≡_};
@@ -19,14 +21,22 @@ fn cross_bin(t: &[u8], at: usize) -> Verdict
     requires { ⌜ (at ≤ length (now t)) × (length (now t) ≤ 65536) ⌝ }
     ensures { λ r. ⌜ r ≡ verdictOf (readCrossBin (now (t .entry)) [] at) ⌝ }
 {
-    let whole = at + 3 <= t.len();
-    let kind = byte(t, at);
-    let guard = byte(t, at + 1);
-    let tokens = byte(t, at + 2);
-    let c = test((1 <= tokens) & (tokens <= 32), 3, at + 2, sound(at + 3));
-    let b = test(bin_guard_ok(kind, guard), 6, at + 1, c);
-    let a = test(kind <= 2, 6, at, b);
-    test(whole, 2, at, a)
+    let end = at + 3;
+    if t.len() < end {
+        return fault(2, at);
+    }
+    let kind = inside(t, at);
+    let guard = inside(t, at + 1);
+    let tokens = inside(t, at + 2);
+    let kinds = kind <= 2;
+    let guarded = bin_guard_ok(kind, guard);
+    let some = (1 <= tokens) & (tokens <= 32);
+    if kinds & guarded & some {
+        return sound(end);
+    }
+    let c = test(some, 3, at + 2, sound(end));
+    let b = test(guarded, 6, at + 1, c);
+    test(kinds, 6, at, b)
 }
 
 // n cross bins from start on.

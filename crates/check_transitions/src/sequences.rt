@@ -1,8 +1,9 @@
 // Section 5: sequences.
 use crate::sums::sum_bytes;
-use words::bytes::byte;
+use words::bytes::inside;
 use words::counts::owned_count;
 use words::verdicts::Verdict;
+use words::verdicts::fault;
 use words::verdicts::sound;
 use words::verdicts::test;
 ghost use mathlib.Core.Path.{_≡_};
@@ -17,10 +18,11 @@ fn sequence_fault(t: &[u8], at: usize) -> Verdict
     ensures { λ r. ⌜ r ≡ verdictOf (readSequence (now (t .entry)) at) ⌝ }
 {
     let end = at + 1;
-    let whole = end <= t.len();
-    let steps = byte(t, at);
-    let a = test((1 <= steps) & (steps <= 16), 3, at, sound(end));
-    test(whole, 2, at, a)
+    if t.len() < end {
+        return fault(2, at);
+    }
+    let steps = inside(t, at);
+    test((1 <= steps) & (steps <= 16), 3, at, sound(end))
 }
 
 // n sequences from start on.

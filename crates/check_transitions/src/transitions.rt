@@ -1,9 +1,10 @@
 // Section 4: transition bins.
-use words::bytes::byte;
+use words::bytes::inside;
 use words::bytes::read2;
 use words::counts::section_count;
 use words::guards::bin_guard_ok;
 use words::verdicts::Verdict;
+use words::verdicts::fault;
 use words::verdicts::sound;
 use words::verdicts::test;
 ghost use mathlib.Core.Path.{_≡_};
@@ -17,16 +18,24 @@ fn transition_fault(t: &[u8], points: usize, at: usize) -> Verdict
     ensures { λ r. ⌜ r ≡ verdictOf (readTransition (now (t .entry)) points at) ⌝ }
 {
     let end = at + 4;
-    let whole = end <= t.len();
-    let point = byte(t, at) as usize;
-    let kind = byte(t, at + 1);
-    let guard = byte(t, at + 2);
-    let sequences = byte(t, at + 3);
-    let d = test(1 <= sequences, 3, at + 3, sound(end));
-    let c = test(bin_guard_ok(kind, guard), 6, at + 2, d);
-    let b = test(kind <= 2, 6, at + 1, c);
-    let a = test(point < points, 6, at, b);
-    test(whole, 2, at, a)
+    if t.len() < end {
+        return fault(2, at);
+    }
+    let point = inside(t, at) as usize;
+    let kind = inside(t, at + 1);
+    let guard = inside(t, at + 2);
+    let sequences = inside(t, at + 3);
+    let known = point < points;
+    let kinds = kind <= 2;
+    let guarded = bin_guard_ok(kind, guard);
+    let some = 1 <= sequences;
+    if known & kinds & guarded & some {
+        return sound(end);
+    }
+    let d = test(some, 3, at + 3, sound(end));
+    let c = test(guarded, 6, at + 2, d);
+    let b = test(kinds, 6, at + 1, c);
+    test(known, 6, at, b)
 }
 
 // n transition bins from start on.

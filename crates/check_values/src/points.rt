@@ -1,10 +1,12 @@
 // Section 1: points.
-use words::bytes::byte;
+use words::bytes::inside;
 use words::bytes::read2;
 use words::bytes::read4;
+use words::bytes::whole2;
 use words::counts::section_count;
 use words::guards::guard_ok;
 use words::verdicts::Verdict;
+use words::verdicts::fault;
 use words::verdicts::sound;
 use words::verdicts::test;
 ghost use mathlib.Core.Path.{_≡_};
@@ -18,16 +20,26 @@ fn point_fault(t: &[u8], at: usize) -> Verdict
     ensures { λ r. ⌜ r ≡ verdictOf (readPoint (now (t .entry)) at) ⌝ }
 {
     let end = at + 11;
-    let whole = end <= t.len();
-    let width = byte(t, at);
+    if t.len() < end {
+        return fault(2, at);
+    }
+    let width = inside(t, at);
+    let sign = inside(t, at + 1);
+    let guarded = guard_ok(inside(t, at + 2));
     let least = read4(t, at + 5);
-    let most = read2(t, at + 9);
-    let e = test((1 <= most) & (most <= 256), 6, at + 9, sound(end));
-    let d = test(1 <= least, 6, at + 5, e);
-    let c = test(guard_ok(byte(t, at + 2)), 6, at + 2, d);
-    let b = test(byte(t, at + 1) <= 1, 6, at + 1, c);
-    let a = test((1 <= width) & (width <= 32), 6, at, b);
-    test(whole, 2, at, a)
+    let most = whole2(t, at + 9);
+    let wide = (1 <= width) & (width <= 32);
+    let signed = sign <= 1;
+    let reached = 1 <= least;
+    let automatic = (1 <= most) & (most <= 256);
+    if wide & signed & guarded & reached & automatic {
+        return sound(end);
+    }
+    let e = test(automatic, 6, at + 9, sound(end));
+    let d = test(reached, 6, at + 5, e);
+    let c = test(guarded, 6, at + 2, d);
+    let b = test(signed, 6, at + 1, c);
+    test(wide, 6, at, b)
 }
 
 // n points from start on.

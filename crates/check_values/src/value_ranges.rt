@@ -1,7 +1,7 @@
 // Section 3: the ranges of the value bins.
 use ranges::ranges_of;
-use words::bytes::byte;
-use words::bytes::read2;
+use words::bytes::inside;
+use words::bytes::whole2;
 use words::counts::owned_count;
 use words::verdicts::Verdict;
 use words::verdicts::sound;
@@ -25,7 +25,7 @@ fn owned_ranges(t: &[u8], n: usize, base: usize) -> usize
     let mut at = base;
     let mut i = 0;
     while i < n {
-        sum += read2(t, at + 6) as usize;
+        sum += whole2(t, at + 6) as usize;
         at += 8;
         i += 1;
     }
@@ -34,13 +34,13 @@ fn owned_ranges(t: &[u8], n: usize, base: usize) -> usize
 
 // The ranges of the bin whose record is at bin; the np points' records begin at points.
 fn bin_ranges(t: &[u8], points: usize, np: usize, bin: usize, at: usize) -> Verdict
-    requires { ⌜ (at ≤ length (now t)) × (length (now t) ≤ 65536) × (bin ≤ 65536) × Typed (now t) points np bin ⌝ }
+    requires { ⌜ (at ≤ length (now t)) × (length (now t) ≤ 65536) × (bin + 8 ≤ length (now t)) × Typed (now t) points np bin ⌝ }
     ensures { λ r. ⌜ r ≡ verdictOf (readBinRanges (now (t .entry)) (pointsAt (now (t .entry)) points np) (binHead (now (t .entry)) bin) at) ⌝ }
 {
-    let p = byte(t, bin) as usize;
-    let kind = byte(t, bin + 1);
-    let form = byte(t, bin + 2);
-    let n = read2(t, bin + 6) as usize;
+    let p = inside(t, bin) as usize;
+    let kind = inside(t, bin + 1);
+    let form = inside(t, bin + 2);
+    let n = whole2(t, bin + 6) as usize;
     ranges_of(t, points + 11 * p, (kind == 0) & (form == 0), n, at)
 }
 

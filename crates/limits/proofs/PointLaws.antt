@@ -30,7 +30,7 @@ use Rattle.limits.specs.Tallies.{Counted}
 use Rattle.limits.specs.Bins.{added, Entries, here, spannedBy, countable, binPoint, binCovers, binSingles, barsOf, binBars, placePoint, placeSingles, placeBars, pointBelow, autosAt, countersIn}
 use Rattle.limits.proofs.RowLaws.{any-sum}
 use Rattle.limits.proofs.EntryLaws.{added-at, sum-only}
-use Rattle.limits.proofs.ReadLaws.{read-layout, read-well, bin-points, transition-points}
+use Rattle.limits.proofs.ReadLaws.{read-layout, read-well, bins-inside, bin-points, transition-points}
 
 -- ---- what a table that was read is known to be
 
@@ -242,10 +242,11 @@ module _ (s : List ℕ) (p : ℕ) (inside : p < recordCount s 0) where
 
 module _ (s : List ℕ) (l : Layout) (laid : l ≡ layoutOf s) (small : Small l) (known : Readable s) where
   pub bins-ready : (l .points ≤ 16777216) × (l .«point_count» ≤ 16) × (l .bins ≤ 16777216) × (l .ranges ≤ 16777216) × (l .«bin_count» ≤ 512) × AllWide s (l .points) (l .«point_count»)
+      × (l .bins + 8 * l .«bin_count» ≤ length s)
   unfolding layoutOf
   bins-ready =
-      let few = subst (λ (l : Layout). (l .«point_count» ≤ 16) × (l .«bin_count» ≤ 512) × AllWide s (l .points) (l .«point_count»)) (sym laid) (few-points s known, few-bins s known, points-wide s known) in
-      (omega (arith, small .points), few .0, omega (arith, small .bins), omega (arith, small .ranges), few .1, few .2)
+      let few = subst (λ (l : Layout). (l .«point_count» ≤ 16) × (l .«bin_count» ≤ 512) × AllWide s (l .points) (l .«point_count») × (l .bins + 8 * l .«bin_count» ≤ length s)) (sym laid) (few-points s known, few-bins s known, points-wide s known, bins-inside s known) in
+      (omega (arith, small .points), few .0, omega (arith, small .bins), omega (arith, small .ranges), few .1, few .2, few .3)
 
   pub bins-there : all (countable (l .«point_count»)) (binsAt s (l .bins) (l .ranges) (l .«bin_count»)) ≡ true
   unfolding layoutOf

@@ -1,15 +1,16 @@
 -- What is known of bytes that passed every test before refusal 6.
 -- Assumes nothing.
-use mathlib.Core.Path.{_∙_, subst}
+use mathlib.Core.Path.{refl, _∙_, subst}
 use mathlib.Core.List.{List}
-use Prim.Native.Nat.{ℕ, _<_}
+use Prim.Native.Nat.{ℕ, _+_, _*_, _≤_, _<_}
 use native.Mathlib.Omega.{arith}
 use lib.ListN.{length, length-map, List·getD-map}
 use borrow.Author.Tests.{ltb-true}
 use Rattle.model.specs.Table.{noValueBin, noTransitionBin}
 use Rattle.model.specs.Format.{BinHead, TransitionHead, binRules}
-use Rattle.model.specs.Raw.{rawTable}
+use Rattle.model.specs.Raw.{rawTable, recordsPlace, recordCount}
 use Rattle.model.proofs.Readers.{All}
+use Rattle.model.proofs.RawExact.{next-place, table-placed}
 use Rattle.model.proofs.Sections.{Layout, layout}
 use Rattle.model.proofs.WellFormed.{WellFormed, layout-well-formed}
 use Rattle.model.proofs.Access.{bins-access}
@@ -23,6 +24,13 @@ module _ (s : List ℕ) (known : Readable s) where
 
   pub read-well : WellFormed (rawTable s)
   read-well = layout-well-formed s (rawTable s) (length s) read-layout
+
+  -- the value bins are inside the table, as all sections are
+  pub bins-inside : recordsPlace s 1 + 8 * recordCount s 1 ≤ length s
+  unfolding recordsPlace recordCount
+  bins-inside =
+      let end = table-placed s (rawTable s) (length s) (known .0) .2 in
+      omega (arith, end, next-place s 1 8 refl, next-place s 2 17 refl, next-place s 3 4 refl, next-place s 4 1 refl, next-place s 5 3 refl, next-place s 6 17 refl, next-place s 7 13 refl, next-place s 8 3 refl, next-place s 9 20 refl)
 
   pub bin-points : All (λ v. v .point < length (rawTable s .points)) (rawTable s .valueBins)
   unfolding binRules

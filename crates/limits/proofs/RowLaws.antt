@@ -60,18 +60,23 @@ module _ {A : Type 0} (f : A → Bool) (says : ℕ → A) (size : ℕ) where
   pub all-start : (m at : ℕ) → all f (rows says size at m) ≡ all f (rows says size at (m - 0))
   all-start m at = rw sub-zero
 
-  module _ (m i at : ℕ) (x : Bool) (inv : x ≡ all f (rows says size at (m - i))) where
-    pub all-done : m ≤ i → true ≡ x
+  -- ok: those before pass
+  module _ (m i at : ℕ) (x ok : Bool) (inv : x ≡ (ok && all f (rows says size at (m - i)))) where
+    pub all-done : m ≤ i → ok ≡ x
     unfolding all rows
-    all-done h = sym (rw (none-left m i h) at inv)
+    all-done h = last ok ∙ sym (rw (none-left m i h) at inv)
+      where
+        last : (b : Bool) → b ≡ (b && true)
+        last true = refl
+        last false = refl
 
-    pub all-stop : i < m → f (says at) ≡ false → false ≡ x
+    pub all-on : (r : Bool) → i < m → r ≡ f (says at) → x ≡ ((ok && r) && all f (rows says size (at + size) (m - (i + 1))))
     unfolding all rows
-    all-stop h e = ap (λ (b : Bool). b && all f (rows says size (at + size) (m - (i + 1)))) (sym e) ∙ sym (rw (one-left m i h) at inv)
-
-    pub all-on : i < m → f (says at) ≡ true → x ≡ all f (rows says size (at + size) (m - (i + 1)))
-    unfolding all rows
-    all-on h e = (rw (one-left m i h) at inv) ∙ ap (λ (b : Bool). b && all f (rows says size (at + size) (m - (i + 1)))) e
+    all-on r h e = (rw (one-left m i h) at inv) ∙ ap (λ (b : Bool). ok && (b && all f (rows says size (at + size) (m - (i + 1))))) (sym e) ∙ nest ok
+      where
+        nest : (b : Bool) → (b && (r && all f (rows says size (at + size) (m - (i + 1))))) ≡ ((b && r) && all f (rows says size (at + size) (m - (i + 1))))
+        nest true = refl
+        nest false = refl
 
 -- what all of them pass, the first does and the others do
 module _ {A : Type 0} (f : A → Bool) (says : ℕ → A) (size at n i : ℕ) (inv : all f (rows says size at (n - i)) ≡ true) (h : i < n) where

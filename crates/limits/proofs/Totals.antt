@@ -19,7 +19,7 @@ use Rattle.model.proofs.Readers.{All}
 use Rattle.model.proofs.WellFormed.{InPoints}
 use Rattle.layout.specs.Places.{layoutOf}
 use Rattle.layout.specs.declared.Layout.{Layout}
-use Rattle.limits.specs.Walks.{Readable, walkSum, after, isByte, crossKinds, nextCross, mostsIn, nextTransition}
+use Rattle.limits.specs.Walks.{Readable, walkSum, after, isByte, valueIllegals, crossKinds, nextCross, crossIllegals, mostsIn, nextTransition}
 use Rattle.limits.specs.Bins.{here, countersIn, pointFits, crossProducts, crossFits}
 use Rattle.limits.specs.Tallies.{Counted, CountersOf}
 use Rattle.model.proofs.Measure.{illegalsOf, crossSum, sum-add, sum-same, illegal-total, run-total, counter-total}
@@ -54,18 +54,18 @@ crosses-inside s known = subst (λ (n : ℕ). All (λ x. InPoints n (x .points))
 
 module _ (s : List ℕ) (l : Layout) (laid : l ≡ layoutOf s) where
   pub illegal-sum : Readable s → (a b c : ℕ)
-      → a ≡ walkSum 0 (isByte s 2) (after 8) (l .bins + 1) (l .«bin_count»)
+      → a ≡ valueIllegals s l
       → b ≡ walkSum 0 (isByte s 2) (after 4) (l .transitions + 1) (l .«transition_count»)
-      → c ≡ walkSum 0 (crossKinds s 2) (nextCross s) (l .crosses, l .«cross_bins») (l .«cross_count»)
+      → c ≡ crossIllegals s l
       → a + b + c ≡ illegalTotal (rawTable s)
   unfolding layoutOf rawTable
   illegal-sum known a b c ea eb ec =
       ap₂ _+_
       (ap₂ _+_
-      (ea ∙ ap (λ (l : Layout). walkSum 0 (isByte s 2) (after 8) (l .bins + 1) (l .«bin_count»)) laid ∙ sym (bins-kinds s illegalsOf 2 illegal-byte (recordsPlace s 1) (recordsPlace s 2) (recordCount s 1)))
+      (ea ∙ ap (valueIllegals s) laid ∙ sym (bins-kinds s illegalsOf 2 illegal-byte (recordsPlace s 1) (recordsPlace s 2) (recordCount s 1)))
       (eb ∙ ap (λ (l : Layout). walkSum 0 (isByte s 2) (after 4) (l .transitions + 1) (l .«transition_count»)) laid
       ∙ sym (transitions-kinds s illegalsOf 2 illegal-byte (recordsPlace s 3) (recordsPlace s 4) (recordsPlace s 5) (recordsPlace s 6) (recordCount s 3))))
-      (ec ∙ ap (λ (l : Layout). walkSum 0 (crossKinds s 2) (nextCross s) (l .crosses, l .«cross_bins») (l .«cross_count»)) laid
+      (ec ∙ ap (crossIllegals s) laid
       ∙ sym (crosses-kinds s illegalsOf 2 illegal-byte (recordsPlace s 7) (recordsPlace s 8) (recordsPlace s 9) (recordCount s 7)))
       ∙ sym (illegal-total (rawTable s) (bin-points s known) (transition-points s known))
 
@@ -93,7 +93,7 @@ module _ (s : List ℕ) (l : Layout) (laid : l ≡ layoutOf s) where
   pub counters-sum : Readable s → (covers singles : List ℕ) → Counted s covers singles → (a b c d : ℕ)
       → a ≡ walkSum 0 (countersIn covers singles) (after 1) 0 (l .«point_count»)
       → b ≡ walkSum 0 (crossKinds s 0) (nextCross s) (l .crosses, l .«cross_bins») (l .«cross_count»)
-      → c ≡ walkSum 0 (crossKinds s 2) (nextCross s) (l .crosses, l .«cross_bins») (l .«cross_count»)
+      → c ≡ crossIllegals s l
       → d ≡ walkSum 0 (crossProducts covers s) (after 13) (l .crosses) (l .«cross_count»)
       → CountersOf (rawTable s) (a + (b + c + d))
   unfolding layoutOf

@@ -8,6 +8,7 @@ use lib.Dec.{eqb}
 use lib.ListN.{length}
 use Rattle.model.specs.Format.{got, byte, readTable}
 use Rattle.model.specs.Raw.{rawTable}
+use Rattle.layout.specs.declared.Layout.{Layout}
 
 -- The bytes passed all tests before refusal 6, and are read as the table by places.
 abbrev pub Readable : List ℕ → Type 0
@@ -29,6 +30,10 @@ byteAt s at = byte s at
 abbrev pub isByte : List ℕ → ℕ → ℕ → ℕ
 isByte s v at = cond (eqb (byte s at) v) 1 0
 
+-- the illegal value bins of a table with that layout
+abbrev pub valueIllegals : List ℕ → Layout → ℕ
+valueIllegals s l = walkSum 0 (isByte s 2) (after 8) (l .bins + 1) (l .«bin_count»)
+
 -- ---- crosses and their bins: a cross's place, and where its bins begin
 
 -- how many bins of the cross are of the kind whose byte is v
@@ -37,6 +42,10 @@ crossKinds s v (c, b) = walkSum 0 (isByte s v) (after 3) b (byte s (c + 12))
 
 abbrev pub nextCross : List ℕ → ℕ × ℕ → ℕ × ℕ
 nextCross s (c, b) = (c + 13, b + 3 * byte s (c + 12))
+
+-- the illegal bins of all crosses of a table with that layout
+abbrev pub crossIllegals : List ℕ → Layout → ℕ
+crossIllegals s l = walkSum 0 (crossKinds s 2) (nextCross s) (l .crosses, l .«cross_bins») (l .«cross_count»)
 
 -- ---- transition bins: a bin's place, where its sequences begin, and where their steps begin
 

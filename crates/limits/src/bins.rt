@@ -1,28 +1,31 @@
 // What the value bins add to the entries of their points, in one pass.
 use crate::entries::add;
+use crate::sums::one_if;
 use crate::values::per_value;
 use layout::Layout;
-use words::bytes::byte;
-use words::bytes::read2;
+use words::bytes::inside;
+use words::bytes::whole2;
 ghost use mathlib.Core.Path.{_≡_};
 ghost use mathlib.Core.Bool.{true};
 ghost use Prim.Native.Nat.{_+_, _*_, _≤_, _<_};
+ghost use lib.ListN.{length};
 ghost use Rattle.model.specs.Lists.{all};
 ghost use Rattle.model.specs.Format.{byte, kindFrom, pointRecord};
 ghost use Rattle.model.specs.Ranges.{rangeCount, coversOf, countersOf};
 ghost use Rattle.model.specs.Raw.{binAt, binsAt};
 ghost use Rattle.ranges.specs.Types.{Wide, AllWide};
+ghost use Rattle.limits.specs.Walks.{valueIllegals};
 ghost use Rattle.limits.specs.Bins.{spannedBy, formAt, ownRanges, more, added, Entries, countable, binPoint, binCovers, binSingles, barsOf, binBars};
 
 // How many bins the value bin at b stands for, whose ranges are from r on; 257 if a bin per value makes more.
 fn bins_of(t: &[u8], point: usize, b: usize, r: usize) -> usize
-    requires { ⌜ (point ≤ 1000000000) × (b ≤ 1000000000) × (r ≤ 1000000000) × Wide (now t) point ⌝ }
+    requires { ⌜ (point ≤ 1000000000) × (b ≤ 1000000000) × (r ≤ 1000000000) × Wide (now t) point × (b + 8 ≤ length (now t)) ⌝ }
     requires { ⌜ spannedBy (formAt (now t) b) (ownRanges (now t) b r) ≡ true ⌝ }
     ensures { λ n. ⌜ (n ≡ rangeCount (pointRecord (now (t .entry)) point) (formAt (now (t .entry)) b) (ownRanges (now (t .entry)) b r)) × (n ≤ 65535) ⌝ }
 {
-    let form = byte(t, b + 2);
-    let number = read2(t, b + 3);
-    let owned = read2(t, b + 6);
+    let form = inside(t, b + 2);
+    let number = whole2(t, b + 3);
+    let owned = whole2(t, b + 6);
     if form == 0 {
         return 1;
     }
@@ -34,7 +37,7 @@ fn bins_of(t: &[u8], point: usize, b: usize, r: usize) -> usize
 
 // The cover bins of a bin of some kind.
 fn covers_of(t: &[u8], kind: u8, point: usize, b: usize, r: usize) -> u32
-    requires { ⌜ (point ≤ 1000000000) × (b ≤ 1000000000) × (r ≤ 1000000000) × Wide (now t) point ⌝ }
+    requires { ⌜ (point ≤ 1000000000) × (b ≤ 1000000000) × (r ≤ 1000000000) × Wide (now t) point × (b + 8 ≤ length (now t)) ⌝ }
     requires { ⌜ spannedBy (formAt (now t) b) (ownRanges (now t) b r) ≡ true ⌝ }
     ensures { λ n. ⌜ (n ≡ coversOf (kindFrom kind) (rangeCount (pointRecord (now (t .entry)) point) (formAt (now (t .entry)) b) (ownRanges (now (t .entry)) b r))) × (n ≤ 65535) ⌝ }
 {
@@ -68,7 +71,7 @@ fn add_bin(
     b: usize,
     r: usize,
 )
-    requires { ⌜ (points ≤ 16777216) × (b ≤ 1000000000) × (r ≤ 1000000000) × (byte (now t) b < 16) × Wide (now t) (points + 11 * byte (now t) b) ⌝ }
+    requires { ⌜ (points ≤ 16777216) × (b ≤ 1000000000) × (r ≤ 1000000000) × (byte (now t) b < 16) × Wide (now t) (points + 11 * byte (now t) b) × (b + 8 ≤ length (now t)) ⌝ }
     requires { ⌜ spannedBy (formAt (now t) b) (ownRanges (now t) b r) ≡ true ⌝ }
     requires { ⌜ Entries 50000000 (now covers) × Entries 1000 (now singles) × Entries 1000 (now bars) ⌝ }
     ensures { λ _. ⌜ now (covers .exit) ≡ more (byte (now (t .entry)) b) (binCovers (now (t .entry)) points (binAt (now (t .entry)) b r)) (now (covers .entry)) ⌝ }
@@ -76,33 +79,44 @@ fn add_bin(
     ensures { λ _. ⌜ now (bars .exit) ≡ more (byte (now (t .entry)) b) (binBars (binAt (now (t .entry)) b r)) (now (bars .entry)) ⌝ }
     ensures { λ _. ⌜ binCovers (now (t .entry)) points (binAt (now (t .entry)) b r) ≤ 65535 ⌝ }
 {
-    let p = byte(t, b) as usize;
-    let kind = byte(t, b + 1);
+    let p = inside(t, b) as usize;
+    let kind = inside(t, b + 1);
     let n = covers_of(t, kind, points + 11 * p, b, r);
     add(covers, p, n);
     add(singles, p, single_of(kind));
     add(bars, p, bar_of(kind));
 }
 
-// The value bins of a table with that layout.
-pub fn add_bins(covers: &mut [u32], singles: &mut [u32], bars: &mut [u32], t: &[u8], l: Layout)
-    requires { ⌜ (l .points ≤ 16777216) × (l .«point_count» ≤ 16) × (l .bins ≤ 16777216) × (l .ranges ≤ 16777216) × (l .«bin_count» ≤ 512) × AllWide (now t) (l .points) (l .«point_count») ⌝ }
+// The value bins of a table with that layout; and how many of them are illegal bins.
+pub fn add_bins(
+    covers: &mut [u32],
+    singles: &mut [u32],
+    bars: &mut [u32],
+    t: &[u8],
+    l: Layout,
+) -> usize
+    requires { ⌜ (l .points ≤ 16777216) × (l .«point_count» ≤ 16) × (l .bins ≤ 16777216) × (l .ranges ≤ 16777216) × (l .«bin_count» ≤ 512) × AllWide (now t) (l .points) (l .«point_count») × (l .bins + 8 * l .«bin_count» ≤ length (now t)) ⌝ }
     requires { ⌜ all (countable (l .«point_count»)) (binsAt (now t) (l .bins) (l .ranges) (l .«bin_count»)) ≡ true ⌝ }
     requires { ⌜ Entries 0 (now covers) × Entries 0 (now singles) × Entries 0 (now bars) ⌝ }
     ensures { λ _. ⌜ now (covers .exit) ≡ added binPoint (binCovers (now (t .entry)) (l .points)) (binsAt (now (t .entry)) (l .bins) (l .ranges) (l .«bin_count»)) (now (covers .entry)) ⌝ }
     ensures { λ _. ⌜ now (singles .exit) ≡ added binPoint binSingles (binsAt (now (t .entry)) (l .bins) (l .ranges) (l .«bin_count»)) (now (singles .entry)) ⌝ }
     ensures { λ _. ⌜ now (bars .exit) ≡ added binPoint binBars (binsAt (now (t .entry)) (l .bins) (l .ranges) (l .«bin_count»)) (now (bars .entry)) ⌝ }
     ensures { λ _. ⌜ Entries (65535 * l .«bin_count») (now (covers .exit)) × Entries (l .«bin_count») (now (singles .exit)) × Entries (l .«bin_count») (now (bars .exit)) ⌝ }
+    ensures { λ r. ⌜ (r ≡ valueIllegals (now (t .entry)) l) × (r ≤ l .«bin_count») ⌝ }
 {
     let n = l.bin_count;
+    let mut illegals: usize = 0;
     let mut b = l.bins;
     let mut r = l.ranges;
     let mut i = 0;
     while i < n {
         add_bin(covers, singles, bars, t, l.points, b, r);
-        let owned = read2(t, b + 6);
+        let kind = inside(t, b + 1);
+        let owned = whole2(t, b + 6);
+        illegals += one_if(kind == 2);
         b += 8;
         r += 17 * owned as usize;
         i += 1;
     }
+    illegals
 }

@@ -1,5 +1,6 @@
 // The products of crosses, by the cover bins of each point.
 use crate::entries::entry;
+use crate::sums::Sum;
 use words::bytes::byte;
 ghost use mathlib.Core.Path.{_≡_};
 ghost use Prim.Native.Nat.{_*_, _≤_};
@@ -31,37 +32,25 @@ fn cross_products(covers: &[u32], t: &[u8], c: usize) -> usize
     product
 }
 
-// No cross has more than 1,024 products.
-pub fn crosses_within(covers: &[u32], t: &[u8], start: usize, n: usize) -> bool
+// The products of all crosses; they fit if no cross has more than 1,024.
+pub fn product_sum(covers: &[u32], t: &[u8], start: usize, n: usize) -> Sum
     requires { ⌜ (start ≤ 16777216) × (n ≤ 65535) ⌝ }
-    ensures { λ r. ⌜ r ≡ all (crossFits (now (covers .entry)) (now (t .entry))) (rows here 13 start n) ⌝ }
+    ensures { λ r. ⌜ r .fits ≡ all (crossFits (now (covers .entry)) (now (t .entry))) (rows here 13 start n) ⌝ }
+    ensures { λ r. ⌜ (r .total ≡ walkSum 0 (crossProducts (now (covers .entry)) (now (t .entry))) (after 13) start n) × (r .total ≤ 1025 * n) ⌝ }
 {
-    let mut at = start;
-    let mut i = 0;
-    while i < n {
-        let found = cross_products(covers, t, at);
-        if found > 1024 {
-            return false;
-        }
-        at += 13;
-        i += 1;
-    }
-    true
-}
-
-// The products of all crosses.
-pub fn product_sum(covers: &[u32], t: &[u8], start: usize, n: usize) -> usize
-    requires { ⌜ (start ≤ 16777216) × (n ≤ 65535) ⌝ }
-    ensures { λ r. ⌜ (r ≡ walkSum 0 (crossProducts (now (covers .entry)) (now (t .entry))) (after 13) start n) × (r ≤ 1025 * n) ⌝ }
-{
+    let mut fits = true;
     let mut sum: usize = 0;
     let mut at = start;
     let mut i = 0;
     while i < n {
         let found = cross_products(covers, t, at);
+        fits = fits & (found <= 1024);
         sum += found;
         at += 13;
         i += 1;
     }
-    sum
+    Sum {
+        fits: fits,
+        total: sum,
+    }
 }

@@ -10,56 +10,46 @@ mod transitions;
 mod values;
 
 use crate::answer::Tally;
-use crate::crosses::crosses_within;
 use crate::crosses::product_sum;
 use crate::kinds::cross_kinds;
 use crate::kinds::mosts;
 use crate::points::count_points;
 use crate::points::point_sum;
-use crate::points::points_within;
+use crate::sums::Sum;
 use crate::sums::count_bytes;
 use layout::Layout;
 use layout::layout_of;
 ghost use mathlib.Core.Path.{_≡_};
+ghost use Prim.Native.Nat.{_≤_};
 ghost use Rattle.model.specs.Counters.{withinLimits};
 ghost use Rattle.model.specs.Raw.{rawTable};
 ghost use Rattle.model.specs.Register.{illegalTotal};
 ghost use Rattle.layout.specs.Places.{layoutOf, Small};
-ghost use Rattle.limits.specs.Walks.{Readable};
+ghost use Rattle.limits.specs.Walks.{Readable, valueIllegals, crossIllegals};
 ghost use Rattle.limits.specs.Tallies.{Tallied, Counted, CountersOf};
 
-// At most 256 counters at a point, at most 1,024 products in a cross.
-fn within(covers: &[u32], singles: &[u32], t: &[u8], l: Layout) -> bool
+// All counters; they fit if at most 256 are a point's and at most 1,024 products a cross's. illegals: the crosses' illegal bins.
+fn counter_total(covers: &[u32], singles: &[u32], t: &[u8], l: Layout, illegals: usize) -> Sum
     requires { ⌜ Readable (now t) × (l ≡ layoutOf (now t)) × Small l ⌝ }
-    requires { ⌜ Counted (now t) (now covers) (now singles) ⌝ }
-    ensures { λ r. ⌜ r ≡ withinLimits (rawTable (now (t .entry))) ⌝ }
-{
-    let points = points_within(covers, singles, l.point_count);
-    let crosses = crosses_within(covers, t, l.crosses, l.cross_count);
-    points & crosses
-}
-
-// All counters, if the limits hold.
-fn counter_total(covers: &[u32], singles: &[u32], t: &[u8], l: Layout) -> usize
-    requires { ⌜ Readable (now t) × (l ≡ layoutOf (now t)) × Small l ⌝ }
-    requires { ⌜ Counted (now t) (now covers) (now singles) ⌝ }
-    ensures { λ r. ⌜ CountersOf (rawTable (now (t .entry))) r ⌝ }
+    requires { ⌜ Counted (now t) (now covers) (now singles) × (illegals ≡ crossIllegals (now t) l) × (illegals ≤ 16777216) ⌝ }
+    ensures { λ r. ⌜ (r .fits ≡ withinLimits (rawTable (now (t .entry)))) × CountersOf (rawTable (now (t .entry))) (r .total) ⌝ }
 {
     let points = point_sum(covers, singles, l.point_count);
     let bins = cross_kinds(t, l.crosses, l.cross_bins, l.cross_count, 0);
-    let illegals = cross_kinds(t, l.crosses, l.cross_bins, l.cross_count, 2);
     let products = product_sum(covers, t, l.crosses, l.cross_count);
-    points + (bins + illegals + products)
+    Sum {
+        fits: points.fits & products.fits,
+        total: points.total + (bins + illegals + products.total),
+    }
 }
 
-// The illegal counters: the words of a report.
-fn illegal_total(t: &[u8], l: Layout) -> usize
+// The illegal counters: those of value bins, of transition bins and of crosses, the words of a report.
+fn illegal_total(t: &[u8], l: Layout, values: usize, crosses: usize) -> usize
     requires { ⌜ Readable (now t) × (l ≡ layoutOf (now t)) × Small l ⌝ }
+    requires { ⌜ (values ≡ valueIllegals (now t) l) × (values ≤ 512) × (crosses ≡ crossIllegals (now t) l) × (crosses ≤ 16777216) ⌝ }
     ensures { λ r. ⌜ r ≡ illegalTotal (rawTable (now (t .entry))) ⌝ }
 {
-    let values = count_bytes(t, l.bins + 1, 8, l.bin_count, 2);
     let transitions = count_bytes(t, l.transitions + 1, 4, l.transition_count, 2);
-    let crosses = cross_kinds(t, l.crosses, l.cross_bins, l.cross_count, 2);
     values + transitions + crosses
 }
 
@@ -70,14 +60,14 @@ pub fn tally(t: &[u8]) -> Tally
     let l = layout_of(t);
     let mut covers: [u32; 16] = [0; 16];
     let mut singles: [u32; 16] = [0; 16];
-    count_points(&mut covers, &mut singles, t, l);
-    let fits = within(&covers, &singles, t, l);
-    let counters = counter_total(&covers, &singles, t, l);
+    let values = count_points(&mut covers, &mut singles, t, l);
+    let crosses = cross_kinds(t, l.crosses, l.cross_bins, l.cross_count, 2);
+    let counters = counter_total(&covers, &singles, t, l, crosses);
     let runs = mosts(t, l.transitions, l.sequences, l.steps, l.transition_count);
-    let illegals = illegal_total(t, l);
+    let illegals = illegal_total(t, l, values, crosses);
     Tally {
-        fits: fits,
-        counters: counters,
+        fits: counters.fits,
+        counters: counters.total,
         runs: runs,
         illegals: illegals,
     }

@@ -2,6 +2,7 @@
 use crate::bins::add_bins;
 use crate::entries::add;
 use crate::entries::entry;
+use crate::sums::Sum;
 use crate::transitions::add_transitions;
 use layout::Layout;
 use ranges::next::least;
@@ -16,7 +17,7 @@ ghost use Rattle.model.specs.Format.{pointRecord};
 ghost use Rattle.model.specs.Raw.{rows};
 ghost use Rattle.ranges.specs.Types.{Wide, AllWide};
 ghost use Rattle.layout.specs.Places.{layoutOf, Small};
-ghost use Rattle.limits.specs.Walks.{Readable, walkSum, after};
+ghost use Rattle.limits.specs.Walks.{Readable, walkSum, after, valueIllegals};
 ghost use Rattle.limits.specs.Bins.{added, Entries, here, autosAt, countersIn, pointFits};
 ghost use Rattle.limits.specs.Tallies.{Counted};
 
@@ -56,47 +57,38 @@ fn add_autos(covers: &mut [u32], bars: &[u32], t: &[u8], points: usize, n: usize
     }
 }
 
-// The cover bins and the other counters of every point.
-pub fn count_points(covers: &mut [u32], singles: &mut [u32], t: &[u8], l: Layout)
+// The cover bins and the other counters of every point; and how many value bins are illegal bins.
+pub fn count_points(covers: &mut [u32], singles: &mut [u32], t: &[u8], l: Layout) -> usize
     requires { ⌜ Readable (now t) × (l ≡ layoutOf (now t)) × Small l ⌝ }
     requires { ⌜ Entries 0 (now covers) × Entries 0 (now singles) ⌝ }
-    ensures { λ _. ⌜ Counted (now (t .entry)) (now (covers .exit)) (now (singles .exit)) ⌝ }
+    ensures { λ r. ⌜ Counted (now (t .entry)) (now (covers .exit)) (now (singles .exit)) × (r ≡ valueIllegals (now (t .entry)) l) × (r ≤ 512) ⌝ }
 {
     let mut bars: [u32; 16] = [0; 16];
-    add_bins(covers, singles, &mut bars, t, l);
+    let illegals = add_bins(covers, singles, &mut bars, t, l);
     add_transitions(singles, &mut bars, t, l.transitions, l.transition_count);
     add_autos(covers, &bars, t, l.points, l.point_count);
+    illegals
 }
 
-// No point has more than 256 counters.
-pub fn points_within(covers: &[u32], singles: &[u32], n: usize) -> bool
+// The counters of all points; they fit if no point has more than 256.
+pub fn point_sum(covers: &[u32], singles: &[u32], n: usize) -> Sum
     requires { ⌜ n ≤ 65535 ⌝ }
-    ensures { λ r. ⌜ r ≡ all (pointFits (now (covers .entry)) (now (singles .entry))) (rows here 1 0 n) ⌝ }
+    ensures { λ r. ⌜ r .fits ≡ all (pointFits (now (covers .entry)) (now (singles .entry))) (rows here 1 0 n) ⌝ }
+    ensures { λ r. ⌜ (r .total ≡ walkSum 0 (countersIn (now (covers .entry)) (now (singles .entry))) (after 1) 0 n) × (r .total ≤ 8589934590 * n) ⌝ }
 {
-    let mut i = 0;
-    while i < n {
-        let a = entry(covers, i) as u64;
-        let b = entry(singles, i) as u64;
-        if a + b > 256 {
-            return false;
-        }
-        i += 1;
-    }
-    true
-}
-
-// The counters of all points.
-pub fn point_sum(covers: &[u32], singles: &[u32], n: usize) -> usize
-    requires { ⌜ n ≤ 65535 ⌝ }
-    ensures { λ r. ⌜ (r ≡ walkSum 0 (countersIn (now (covers .entry)) (now (singles .entry))) (after 1) 0 n) × (r ≤ 8589934590 * n) ⌝ }
-{
+    let mut fits = true;
     let mut sum: usize = 0;
     let mut i = 0;
     while i < n {
         let a = entry(covers, i) as usize;
         let b = entry(singles, i) as usize;
-        sum += a + b;
+        let found = a + b;
+        fits = fits & (found <= 256);
+        sum += found;
         i += 1;
     }
-    sum
+    Sum {
+        fits: fits,
+        total: sum,
+    }
 }

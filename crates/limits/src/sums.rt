@@ -5,6 +5,12 @@ ghost use mathlib.Core.Bool.{cond};
 ghost use Prim.Native.Nat.{_*_, _≤_};
 ghost use Rattle.limits.specs.Walks.{walkSum, after, byteAt, isByte};
 
+// A sum, and whether each of its terms keeps its limit.
+pub struct Sum {
+    pub fits: bool,
+    pub total: usize,
+}
+
 pub fn one_if(c: bool) -> usize
     ensures { λ r. ⌜ (r ≡ cond c 1 0) × (r ≤ 1) ⌝ }
 {

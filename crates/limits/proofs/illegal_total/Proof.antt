@@ -9,15 +9,6 @@ add-count-bytes c = search needs
 count-bytes-requires : tie.Need-count-bytes-requires
 count-bytes-requires c κs = search needs
 
-add-count-bytes-2 : tie.Need-add-count-bytes-2
-add-count-bytes-2 c = search needs
-
-count-bytes-requires-2 : tie.Need-count-bytes-requires-2
-count-bytes-requires-2 c κs = search needs
-
-cross-kinds-requires : tie.Need-cross-kinds-requires
-cross-kinds-requires c κs = search needs
-
 add-result : tie.Need-add-result
 add-result c = search needs
 
@@ -26,7 +17,9 @@ add-result-2 c = search needs
 
 returns : tie.Need-returns
 returns c =
-    illegal-sum (c .before .before .before .before .before .before .args .t .now) (c .before .before .before .before .before .before .args .l) (c .before .before .before .before .before .before .pre .1) (c .before .before .before .before .before .before .pre .0) _ _ _ (c .before .before .before .count-bytes .ensures .0) (c .before .count-bytes2 .ensures .0) (c .cross-kinds .ensures .0)
+    let a = c .before .before .before .args in
+    let pre = c .before .before .before .pre in
+    illegal-sum (a .t .now) (a .l) (pre .0 .1) (pre .0 .0) _ _ _ (pre .1 .0) (c .count-bytes .ensures .0) (pre .1 .2)
 
 pub illegal-total-spec : {M : Type 1} → statement M
 illegal-total-spec =
@@ -34,9 +27,6 @@ illegal-total-spec =
     (tie.spec
     add-count-bytes
     count-bytes-requires
-    add-count-bytes-2
-    count-bytes-requires-2
-    cross-kinds-requires
     add-result
     add-result-2
     returns)

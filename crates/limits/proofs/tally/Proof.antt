@@ -1,3 +1,4 @@
+use native.Mathlib.Omega.{arith}
 use Rattle.limits.proofs.EntryLaws.{entries-none}
 use Rattle.limits.proofs.Totals.{run-sum}
 use borrow.Author.Needs.{needs}
@@ -19,21 +20,8 @@ count-points-requires c κs = (
   (entries-none, entries-none),
 )
 
-slice-aggregate-within : tie.Need-slice-aggregate-within
-slice-aggregate-within c = search needs
-
-slice-aggregate-within-2 : tie.Need-slice-aggregate-within-2
-slice-aggregate-within-2 c = search needs
-
-within-requires : tie.Need-within-requires
-within-requires c κs = (
-  (
-    c .before .before .before .before .before .before .before .before .before .pre,
-    c .before .before .before .before .before .before .before .layout-of .ensures .0,
-    c .before .before .before .before .before .before .before .layout-of .ensures .1,
-  ),
-  c .before .before .before .before .count-points .ensures,
-)
+cross-kinds-requires : tie.Need-cross-kinds-requires
+cross-kinds-requires c κs = search needs
 
 slice-aggregate-counter-total : tie.Need-slice-aggregate-counter-total
 slice-aggregate-counter-total c = search needs
@@ -42,31 +30,29 @@ slice-aggregate-counter-total-2 : tie.Need-slice-aggregate-counter-total-2
 slice-aggregate-counter-total-2 c = search needs
 
 counter-total-requires : tie.Need-counter-total-requires
-counter-total-requires c κs = (
-  (
-    c .before .before .before .before .before .before .before .before .before .before .before .before .pre,
-    c .before .before .before .before .before .before .before .before .before .before .layout-of .ensures .0,
-    c .before .before .before .before .before .before .before .before .before .before .layout-of .ensures .1,
-  ),
-  c .before .before .before .before .before .before .before .count-points .ensures,
-)
+counter-total-requires c κs =
+    let l = c .before .before .before .before .before .before .before .before .layout-of .ensures in
+    let crosses = c .before .before .cross-kinds .ensures in
+    ((c .before .before .before .before .before .before .before .before .before .before .pre, l .0, l .1), (c .before .before .before .before .before .count-points .ensures .0, crosses .0, search needs))
 
 mosts-requires : tie.Need-mosts-requires
 mosts-requires c κs = search needs
 
 illegal-total-requires : tie.Need-illegal-total-requires
-illegal-total-requires c κs = (
-  c .before .before .before .before .before .before .before .before .before .before .before .before .before .before .pre,
-  c .before .before .before .before .before .before .before .before .before .before .before .before .layout-of .ensures .0,
-  c .before .before .before .before .before .before .before .before .before .before .before .before .layout-of .ensures .1,
-)
+illegal-total-requires c κs =
+    let l = c .before .before .before .before .before .before .before .before .before .before .layout-of .ensures in
+    let crosses = c .before .before .before .before .cross-kinds .ensures in
+    let counted = c .before .before .before .before .before .before .before .count-points .ensures in
+    ((c .before .before .before .before .before .before .before .before .before .before .before .before .pre, l .0, l .1), (counted .1, counted .2, crosses .0, search needs))
 
 returns : tie.Need-returns
 returns c =
+    let counters = c .before .before .counter-total .ensures in
+    let l = c .before .before .before .before .before .before .before .before .before .before .before .layout-of in
     record {
-      fits = c .before .before .before .before .before .within .ensures;
-      counters = c .before .before .counter-total .ensures;
-      runs = run-sum (c .before .before .before .before .before .before .before .before .before .before .before .before .before .before .before .args .t .now) (c .before .before .before .before .before .before .before .before .before .before .before .before .before .layout-of .result) (c .before .before .before .before .before .before .before .before .before .before .before .before .before .layout-of .ensures .0) _ (c .before .mosts .ensures .0);
+      fits = counters .0;
+      counters = counters .1;
+      runs = run-sum (c .before .before .before .before .before .before .before .before .before .before .before .before .before .args .t .now) (l .result) (l .ensures .0) _ (c .before .mosts .ensures .0);
       illegals = c .illegal-total .ensures;
     }
 
@@ -78,9 +64,7 @@ tally-spec =
     slice-aggregate-count-points
     slice-aggregate-count-points-2
     count-points-requires
-    slice-aggregate-within
-    slice-aggregate-within-2
-    within-requires
+    cross-kinds-requires
     slice-aggregate-counter-total
     slice-aggregate-counter-total-2
     counter-total-requires

@@ -1,6 +1,7 @@
 use Rattle.model.specs.Format.{readPoint}
 use Rattle.words.specs.Verdicts.{verdictIn}
-use Rattle.words.proofs.Laws.{verdict-record}
+use Rattle.words.proofs.Laws.{passing, passed, record-cut, record-whole}
+use native.Mathlib.Omega.{arith}
 use borrow.Author.Needs.{needs}
 use Rattle.check_values.proofs.points.point_fault.Statement.{statement}
 use Rattle.check_values.proofs.points.point_fault.Tie as tie
@@ -8,8 +9,30 @@ use Rattle.check_values.proofs.points.point_fault.Tie as tie
 add-end : tie.Need-add-end
 add-end c = search needs
 
-byte-requires : tie.Need-byte-requires
-byte-requires c κs = search needs
+fault-requires : tie.Need-fault-requires
+fault-requires c κs = search needs
+
+returns : tie.Need-returns
+unfolding readPoint
+returns c = record-cut _ _ _ _ _ _ (c .before .if1 .taken) (c .fault .ensures)
+
+inside-requires : tie.Need-inside-requires
+inside-requires c κs = search needs
+
+add-inside : tie.Need-add-inside
+add-inside c = search needs
+
+inside-requires-2 : tie.Need-inside-requires-2
+inside-requires-2 c κs = search needs
+
+add-inside-2 : tie.Need-add-inside-2
+add-inside-2 c = search needs
+
+inside-requires-3 : tie.Need-inside-requires-3
+inside-requires-3 c κs = search needs
+
+guard-ok-requires : tie.Need-guard-ok-requires
+guard-ok-requires c κs = search needs
 
 add-read4 : tie.Need-add-read4
 add-read4 c = search needs
@@ -17,17 +40,24 @@ add-read4 c = search needs
 read4-requires : tie.Need-read4-requires
 read4-requires c κs = search needs
 
-add-read2 : tie.Need-add-read2
-add-read2 c = search needs
+add-whole2 : tie.Need-add-whole2
+add-whole2 c = search needs
 
-read2-requires : tie.Need-read2-requires
-read2-requires c κs = search needs
+whole2-requires : tie.Need-whole2-requires
+whole2-requires c κs = search needs
+
+sound-requires : tie.Need-sound-requires
+sound-requires c κs = search needs
+
+returns-2 : tie.Need-returns-2
+unfolding readPoint passing
+returns-2 c = record-whole _ _ _ _ _ _ (search needs) (passed _ _ _ _ (c .sound .ensures) (c .before .if2 .taken) (rw (c .before .before .whole2 .ensures, c .before .before .before .read4 .ensures, c .before .before .before .before .guard-ok .ensures, c .before .before .before .before .before .inside3 .ensures, c .before .before .before .before .before .before .inside2 .ensures, c .before .before .before .before .before .before .before .inside .ensures)))
 
 add-test : tie.Need-add-test
 add-test c = search needs
 
-sound-requires : tie.Need-sound-requires
-sound-requires c κs = search needs
+sound-requires-2 : tie.Need-sound-requires-2
+sound-requires-2 c κs = search needs
 
 test-requires : tie.Need-test-requires
 test-requires c κs = search needs
@@ -38,26 +68,11 @@ add-test-2 c = search needs
 test-requires-2 : tie.Need-test-requires-2
 test-requires-2 c κs = search needs
 
-add-byte : tie.Need-add-byte
-add-byte c = search needs
-
-byte-requires-2 : tie.Need-byte-requires-2
-byte-requires-2 c κs = search needs
-
-guard-ok-requires : tie.Need-guard-ok-requires
-guard-ok-requires c κs = search needs
-
 add-test-3 : tie.Need-add-test-3
 add-test-3 c = search needs
 
 test-requires-3 : tie.Need-test-requires-3
 test-requires-3 c κs = search needs
-
-add-byte-2 : tie.Need-add-byte-2
-add-byte-2 c = search needs
-
-byte-requires-3 : tie.Need-byte-requires-3
-byte-requires-3 c κs = search needs
 
 add-test-4 : tie.Need-add-test-4
 add-test-4 c = search needs
@@ -68,37 +83,37 @@ test-requires-4 c κs = search needs
 test-requires-5 : tie.Need-test-requires-5
 test-requires-5 c κs = search needs
 
-test-requires-6 : tie.Need-test-requires-6
-test-requires-6 c κs = search needs
-
-returns : tie.Need-returns
+returns-3 : tie.Need-returns-3
 unfolding readPoint verdictIn
-returns c = rw (verdict-record, c .test6 .ensures, c .before .test5 .ensures, c .before .before .test4 .ensures, c .before .before .before .byte3 .ensures, c .before .before .before .before .test3 .ensures, c .before .before .before .before .before .guard-ok .ensures, c .before .before .before .before .before .before .byte2 .ensures, c .before .before .before .before .before .before .before .test2 .ensures, c .before .before .before .before .before .before .before .before .test .ensures, c .before .before .before .before .before .before .before .before .before .sound .ensures, c .before .before .before .before .before .before .before .before .before .before .read2 .ensures, c .before .before .before .before .before .before .before .before .before .before .before .read4 .ensures, c .before .before .before .before .before .before .before .before .before .before .before .before .byte .ensures)
+returns-3 c = record-whole _ _ _ _ _ _ (omega (arith, c .before .before .before .before .before .before .before .before .before .before .before .before .before .if1 .left)) (rw (c .test5 .ensures, c .before .test4 .ensures, c .before .before .test3 .ensures, c .before .before .before .test2 .ensures, c .before .before .before .before .test .ensures, c .before .before .before .before .before .sound2 .ensures, c .before .before .before .before .before .before .before .whole2 .ensures, c .before .before .before .before .before .before .before .before .read4 .ensures, c .before .before .before .before .before .before .before .before .before .guard-ok .ensures, c .before .before .before .before .before .before .before .before .before .before .inside3 .ensures, c .before .before .before .before .before .before .before .before .before .before .before .inside2 .ensures, c .before .before .before .before .before .before .before .before .before .before .before .before .inside .ensures))
 
 pub point-fault-spec : {M : Type 1} → statement M
 point-fault-spec =
     tie.close
     (tie.spec
     add-end
-    byte-requires
+    fault-requires
+    returns
+    inside-requires
+    add-inside
+    inside-requires-2
+    add-inside-2
+    inside-requires-3
+    guard-ok-requires
     add-read4
     read4-requires
-    add-read2
-    read2-requires
-    add-test
+    add-whole2
+    whole2-requires
     sound-requires
+    returns-2
+    add-test
+    sound-requires-2
     test-requires
     add-test-2
     test-requires-2
-    add-byte
-    byte-requires-2
-    guard-ok-requires
     add-test-3
     test-requires-3
-    add-byte-2
-    byte-requires-3
     add-test-4
     test-requires-4
     test-requires-5
-    test-requires-6
-    returns)
+    returns-3)

@@ -3,29 +3,29 @@ use borrow.Author.Needs.{needs}
 use Rattle.check_values.proofs.value_ranges.bin_ranges.Statement.{statement}
 use Rattle.check_values.proofs.value_ranges.bin_ranges.Tie as tie
 
-byte-requires : tie.Need-byte-requires
-byte-requires c κs = search needs
+inside-requires : tie.Need-inside-requires
+inside-requires c κs = search needs
 
 cast-p : tie.Need-cast-p
 cast-p c = search needs
 
-add-byte : tie.Need-add-byte
-add-byte c = search needs
+add-inside : tie.Need-add-inside
+add-inside c = search needs
 
-byte-requires-2 : tie.Need-byte-requires-2
-byte-requires-2 c κs = search needs
+inside-requires-2 : tie.Need-inside-requires-2
+inside-requires-2 c κs = search needs
 
-add-byte-2 : tie.Need-add-byte-2
-add-byte-2 c = search needs
+add-inside-2 : tie.Need-add-inside-2
+add-inside-2 c = search needs
 
-byte-requires-3 : tie.Need-byte-requires-3
-byte-requires-3 c κs = search needs
+inside-requires-3 : tie.Need-inside-requires-3
+inside-requires-3 c κs = search needs
 
-add-read2 : tie.Need-add-read2
-add-read2 c = search needs
+add-whole2 : tie.Need-add-whole2
+add-whole2 c = search needs
 
-read2-requires : tie.Need-read2-requires
-read2-requires c κs = search needs
+whole2-requires : tie.Need-whole2-requires
+whole2-requires c κs = search needs
 
 cast-n : tie.Need-cast-n
 cast-n c = search needs
@@ -37,23 +37,23 @@ add-ranges-of : tie.Need-add-ranges-of
 add-ranges-of c = search needs
 
 ranges-of-requires : tie.Need-ranges-of-requires
-ranges-of-requires c κs = rw (c .before .before .before .byte .ensures) (search needs)
+ranges-of-requires c κs = rw (c .before .before .before .inside .ensures) (search needs)
 
 returns : tie.Need-returns
-returns c = rw (verdict-bin-at _ _ _ _ _ (c .before .before .before .before .before .before .pre .3 .known), c .ranges-of .ensures, c .before .read2 .ensures, c .before .before .byte3 .ensures, c .before .before .before .byte2 .ensures, c .before .before .before .before .byte .ensures)
+returns c = rw (verdict-bin-at _ _ _ _ _ (c .before .before .before .before .before .before .pre .3 .known), c .ranges-of .ensures, c .before .whole2 .ensures, c .before .before .inside3 .ensures, c .before .before .before .inside2 .ensures, c .before .before .before .before .inside .ensures)
 
 pub bin-ranges-spec : {M : Type 1} → statement M
 bin-ranges-spec =
     tie.close
     (tie.spec
-    byte-requires
+    inside-requires
     cast-p
-    add-byte
-    byte-requires-2
-    add-byte-2
-    byte-requires-3
-    add-read2
-    read2-requires
+    add-inside
+    inside-requires-2
+    add-inside-2
+    inside-requires-3
+    add-whole2
+    whole2-requires
     cast-n
     mul-ranges-of
     add-ranges-of

@@ -15,11 +15,11 @@ abbrev μ-loop : tie.MeasureT-loop
 loop-holds : tie.Need-loop-holds Inv-loop μ-loop
 loop-holds c = search sums
 
-add-read2 : tie.Need-add-read2 Inv-loop μ-loop
-add-read2 c = search sums
+add-whole2 : tie.Need-add-whole2 Inv-loop μ-loop
+add-whole2 c = search sums
 
-read2-requires : tie.Need-read2-requires Inv-loop μ-loop
-read2-requires c κs = search sums
+whole2-requires : tie.Need-whole2-requires Inv-loop μ-loop
+whole2-requires c κs = search sums
 
 cast-sum : tie.Need-cast-sum Inv-loop μ-loop
 cast-sum c = search sums
@@ -49,8 +49,8 @@ owned-ranges-spec =
     Inv-loop
     μ-loop
     loop-holds
-    add-read2
-    read2-requires
+    add-whole2
+    whole2-requires
     cast-sum
     add-sum
     add-at

@@ -13,7 +13,7 @@ add-bins-requires c κs =
     let a = c .before .before .before .before .before .before .args in
     let q = c .before .before .before .before .before .before .pre .0 in
     let p = bins-ready (a .t .now) (a .l) (q .1) (q .2) (q .0) in (
-      (p .0, p .1, p .2, p .3, p .4, p .5),
+      (p .0, p .1, p .2, p .3, p .4, p .5, p .6),
       (bins-there (a .t .now) (a .l) (q .1) (q .2) (q .0), (c .before .before .before .before .before .before .pre .1 .0, c .before .before .before .before .before .before .pre .1 .1, entries-none)),
     )
 
@@ -26,7 +26,7 @@ add-transitions-requires c κs =
     let q = c .before .before .before .before .before .before .before .before .before .before .before .before .before .before .pre .0 in
     let p = bins-ready (a .t .now) (a .l) (q .1) (q .2) (q .0) in
     let m = p .4 in
-    let e = c .before .before .before .before .before .before .before .add-bins .ensures .1 .1 .1 in (
+    let e = c .before .before .before .before .before .before .before .add-bins .ensures .1 .1 .1 .0 in (
       transitions-ready (a .t .now) (a .l) (q .1) (q .2) (q .0),
       (entries-up _ 1000 _ (e .1) (omega arith), entries-up _ 1000 _ (e .2) (omega arith)),
     )
@@ -40,7 +40,7 @@ add-autos-requires c κs =
     let q = c .before .before .before .before .before .before .before .before .before .before .before .before .before .before .before .before .before .before .before .before .pre .0 in
     let p = bins-ready (a .t .now) (a .l) (q .1) (q .2) (q .0) in
     let m = p .4 in
-    let e = c .before .before .before .before .before .before .before .before .before .before .before .before .before .add-bins .ensures .1 .1 .1 in
+    let e = c .before .before .before .before .before .before .before .before .before .before .before .before .before .add-bins .ensures .1 .1 .1 .0 in
     (p .0, p .1, p .5, entries-up _ 40000000 _ (e .0) (omega arith))
 
 same-length : tie.Need-same-length
@@ -60,8 +60,10 @@ returns c =
     let e = c .before .before .before .before .before .before .before .before .before .before .before .before .before .before .before .before .add-bins .ensures in
     let f = c .before .before .before .before .before .before .before .before .add-transitions .ensures in
     let g = c .before .before .add-autos .ensures in
-    let k = e .1 .1 .1 in
-    entries-counted (a .t .now) (a .l) (q .1) (q .2) (q .0) _ _ _ _ _ _ _ _ _ (c .before .before .before .before .before .before .before .before .before .before .before .before .before .before .before .before .before .before .before .before .before .before .before .pre .1 .0) (c .before .before .before .before .before .before .before .before .before .before .before .before .before .before .before .before .before .before .before .before .before .before .before .pre .1 .1) entries-none (k .0 .count) (k .1 .count) (k .2 .count) (entries-up _ 50000000 _ (g .1) (omega arith)) (entries-up _ 100000 _ (f .1 .1 .0) (omega arith)) (e .0) (e .1 .0) (e .1 .1 .0) (f .0) (f .1 .0) (g .0)
+    let k = e .1 .1 .1 .0 in
+    let n = e .1 .1 .1 .1 in
+    let most = p .4 in
+    (entries-counted (a .t .now) (a .l) (q .1) (q .2) (q .0) _ _ _ _ _ _ _ _ _ (c .before .before .before .before .before .before .before .before .before .before .before .before .before .before .before .before .before .before .before .before .before .before .before .pre .1 .0) (c .before .before .before .before .before .before .before .before .before .before .before .before .before .before .before .before .before .before .before .before .before .before .before .pre .1 .1) entries-none (k .0 .count) (k .1 .count) (k .2 .count) (entries-up _ 50000000 _ (g .1) (omega arith)) (entries-up _ 100000 _ (f .1 .1 .0) (omega arith)) (e .0) (e .1 .0) (e .1 .1 .0) (f .0) (f .1 .0) (g .0), n .0, omega (arith, n .1, most))
 
 pub count-points-spec : {M : Type 1} → statement M
 count-points-spec =
