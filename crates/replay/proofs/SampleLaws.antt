@@ -1,6 +1,6 @@
 -- The words of the samples of a block, and how many samples a batch takes of them.
 -- Assumes nothing.
-use mathlib.Core.Path.{_≡_, refl, sym, ap, _∙_}
+use mathlib.Core.Path.{_≡_, sym, ap, _∙_}
 use mathlib.Core.List.{List, [], _∷_, _++_}
 use Prim.Native.Nat.{ℕ, zero, suc, _+_, _-_, _*_, _≤_, _<_}
 use native.Mathlib.Omega.{arith}
@@ -17,28 +17,20 @@ use Rattle.batch.specs.Batch.{Batch, sampleSize, andThen, inTurn, batchFrom, ba
 use Rattle.replay.specs.Log.{samplesFrom}
 
 module _ (points count : ℕ) (s : List ℕ) where
-  -- what i samples leave to be written
-  left : ℕ → ℕ → List ℕ
-  left i from = samplesFrom points (count - i) s from
-
-  one : ℕ → List ℕ
-  one from = rows (u32 s) 4 (from + 4) (4 + 2 * points)
-
-  left-turn : (i from : ℕ) → i < count → left i from ≡ one from ++ left (i + 1) (from + 4 + 4 * (4 + 2 * points))
-  unfolding left one samplesFrom
-  left-turn i from h = rw (one-left count i h)
+  turn : (i from : ℕ) → i < count → samplesFrom points (count - i) s from ≡ rows (u32 s) 4 (from + 4) (4 + 2 * points) ++ samplesFrom points (count - (i + 1)) s (from + 4 + 4 * (4 + 2 * points))
+  unfolding samplesFrom
+  turn i from h = rw (one-left count i h)
 
   -- the words l′ have one more sample than l, written at `at`
   pub samples-turn : (i from at n from′ at′ : ℕ) (l l′ : List ℕ) → i < count → n ≡ 4 + 2 * points → from′ ≡ from + (4 + 4 * n) → at′ ≡ at + n → at + n ≤ length l → l′ ≡ put at (rows (u32 s) 4 (from + 4) n) l
       → (at′ + length (samplesFrom points (count - (i + 1)) s from′) ≡ at + length (samplesFrom points (count - i) s from)) × (put at′ (samplesFrom points (count - (i + 1)) s from′) l′ ≡ put at (samplesFrom points (count - i) s from) l)
-  unfolding left one
   samples-turn i from at n from′ at′ l l′ h e f g k w =
       let rest = samplesFrom points (count - (i + 1)) s from′ in
       let xs = rows (u32 s) 4 (from + 4) n in
       let size = length-rows (u32 s) 4 (from + 4) n in
       let place : from′ ≡ from + 4 + 4 * (4 + 2 * points) = omega arith in
-      let turn : samplesFrom points (count - i) s from ≡ xs ++ rest = rw (place, e) (left-turn i from h) in
-      (omega (arith, ap length turn, length-append xs rest, size), rw (w, g) (put-next at n xs rest l size k) ∙ ap (λ (x : List ℕ). put at x l) (sym turn))
+      let cut : samplesFrom points (count - i) s from ≡ xs ++ rest = rw (place, e) (turn i from h) in
+      (omega (arith, ap length cut, length-append xs rest, size), rw (w, g) (put-next at n xs rest l size k) ∙ ap (λ (x : List ℕ). put at x l) (sym cut))
 
   pub samples-start : (l : List ℕ) → (0 + length (samplesFrom points (count - 0) s 0) ≡ length (samplesFrom points count s 0)) × (put 0 (samplesFrom points (count - 0) s 0) l ≡ put 0 (samplesFrom points count s 0) l)
   samples-start l =

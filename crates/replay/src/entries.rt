@@ -42,7 +42,7 @@ const ILLEGALS: usize = 12416;
 // The samples of a block, and the words of its reports, at most.
 const BLOCK: usize = 256;
 
-const REPORTS: usize = 16384;
+const REPORTS: usize = 12416;
 
 // Entries are taken below this number.
 const LAST: u64 = 18446744073709486080;
@@ -369,9 +369,10 @@ fn take_samples(
     )
 }
 
-// The log ends where an entry could begin.
+// A log that stopped ends where an entry could begin.
 fn at_end(head: Log) -> Log
-    ensures { λ r. ⌜ Kept head r × (head .state ≤ r .state * 255) ⌝ }
+    requires { ⌜ 0 < head .state ⌝ }
+    ensures { λ r. ⌜ Kept head r × (0 < r .state) ⌝ }
 {
     if (head.state == CUT) & (head.from == head.to) {
         return stopped(head, ENDED, 0);
@@ -446,7 +447,7 @@ pub fn take_all(
     // The illegal places, and from ILLEGALS on how often the line of each was shown.
     let mut illegals = [0u16; 24832];
     let n = put_of_kind(&mut illegals, kinds, kinds.len(), 0, 2);
-    let mut reports = [0u32; 16384];
+    let mut reports = [0u32; 12416];
     let mut bytes = io::large_buffer();
     let log = new_log(fd, points, n);
     take_entries(

@@ -5,7 +5,7 @@ use Rattle.replay.proofs.entries.block_of.Statement.{statement}
 use Rattle.replay.proofs.entries.block_of.Tie as tie
 
 abbrev Inv-loop : tie.InvT-loop
-Inv-loop bytes points illegals one count₀ size₀ words₀ count size words = (0 < count) × (count ≤ 256) × (size ≤ length bytes) × (size ≤ 148 * count) × (words ≤ 16384)
+Inv-loop bytes points illegals one count₀ size₀ words₀ count size words = (0 < count) × (count ≤ 256) × (size ≤ length bytes) × (size ≤ 148 * count) × (words ≤ 12416)
 
 abbrev μ-loop : tie.MeasureT-loop
 μ-loop bytes points illegals one count₀ size₀ words₀ count size words = 256 - count
