@@ -314,6 +314,105 @@ fn illegal_places() {
     assert!(output.starts_with(&expected), "{output}");
 }
 
+/// One point with eight illegal values and a transition.
+fn illegal_table() -> Vec<u8> {
+    let illegal = |v| ValueBin::illegal(0, &[value(v)]);
+    Table::new(vec![Point::new(4)])
+        .values((1..9).map(illegal).collect())
+        .transitions(vec![TransitionBin::cover(0, &[sequence(&[9, 10])])])
+        .bytes()
+}
+
+/// Samples one after another are taken by blocks, of 256 at most: what is written is the same
+/// wherever a block begins and ends.
+#[test]
+fn blocks() {
+    let folder = folder("blocks");
+    let meddled = Meddled::new(&folder);
+    let bytes = illegal_table();
+    let table = file(&folder, "table", &bytes);
+    let of = |value: u32, times: usize| vec![sample(value, 0); times];
+    let cut = |entries: &[Entry], bytes: usize| {
+        let whole = log(entries);
+        whole[..whole.len() - bytes].to_vec()
+    };
+    for (name, entries) in [
+        // More than a block; exactly one, two; one sample beside them.
+        ("long", log(&of(9, 1_000))),
+        ("one", log(&of(1, 256))),
+        ("two", log(&of(1, 512))),
+        ("beside", log(&of(2, 257))),
+        // A place raised more than 10 times within a block, and in several.
+        ("within", log(&[of(1, 11), of(0, 3), of(1, 1)].concat())),
+        (
+            "across",
+            log(&[of(3, 4), of(0, 255), of(3, 4), of(0, 300), of(3, 4)].concat()),
+        ),
+        // A start and a stop between samples; a stopped register refuses within a log.
+        (
+            "between",
+            log(&[
+                of(9, 100),
+                vec![Entry::Start],
+                of(10, 1),
+                vec![Entry::Stop, Entry::Start],
+                of(10, 300),
+            ]
+            .concat()),
+        ),
+        (
+            "stopped",
+            log(&[of(1, 5), vec![Entry::Stop], of(1, 5)].concat()),
+        ),
+        // A refused sample in the middle of a block, at its start, and just after one.
+        ("refused", log(&[of(4, 7), of(16, 1), of(5, 9)].concat())),
+        ("refused-first", log(&of(16, 2))),
+        ("refused-last", log(&[of(6, 255), of(16, 1)].concat())),
+        ("refused-next", log(&[of(6, 256), of(16, 1)].concat())),
+        // A log that ends within a sample, and one with an entry of no kind, after whole samples.
+        ("cut", cut(&of(7, 9), 1)),
+        ("cut-head", cut(&of(7, 9), 25)),
+        ("cut-next", cut(&of(7, 257), 4)),
+        (
+            "kind",
+            log(&[of(8, 3), vec![Entry::Other(3)], of(8, 3)].concat()),
+        ),
+    ] {
+        let expected = replay(&bytes, &entries);
+        let log = file(&folder, name, &entries);
+        assert_eq!(run(&table, &log), expected, "{name}");
+        // By few bytes at a time a block has one sample or a few.
+        for size in [5, 28, 100] {
+            let slow = meddled.run(&table, &log, &[("READ_SIZE", size)]);
+            assert_eq!(slow, (expected.clone(), String::new()), "{name}, {size}");
+        }
+    }
+}
+
+/// So many illegal places that the reports of few samples fill a block.
+#[test]
+fn blocks_of_many_illegal_places() {
+    let folder = folder("many");
+    let points = 4;
+    let bins = (0..points * 120).map(|i| {
+        let (point, low) = ((i % points) as u8, (i / points) as i64);
+        ValueBin::illegal(point, &[value(2 * low)])
+    });
+    let bytes = Table::new(vec![Point::new(8); points])
+        .values(bins.collect())
+        .bytes();
+    let entries: Vec<Entry> = (0..1_500u32)
+        .map(|i| Entry::Sample([vec![0; 4], vec![i % 240, 0, 2, 0, 1, 0, i % 8, 0]].concat()))
+        .collect();
+    let entries = log(&entries);
+    let expected = replay(&bytes, &entries);
+    assert!(expected.ends_with("end of report\n"));
+    assert_eq!(expected.matches(", illegal bin, ").count(), points * 120);
+    assert!(expected.contains("illegal place "));
+    let table = file(&folder, "table", &bytes);
+    assert_eq!(run(&table, &file(&folder, "log", &entries)), expected);
+}
+
 #[test]
 fn tables_that_are_refused() {
     let folder = folder("tables");

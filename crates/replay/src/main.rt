@@ -22,6 +22,7 @@ use table::facts;
 ghost use mathlib.Core.Path.{_≡_};
 ghost use mathlib.Core.Bool.{true};
 ghost use Prim.Native.Nat.{_≤_};
+ghost use lib.ListN.{length};
 ghost use Rattle.model.specs.Format.{accepted};
 ghost use Rattle.table.specs.Check.{Few};
 
@@ -34,7 +35,7 @@ fn tell_unread(log: Log, path: &[u8]) {
 
 // Takes the log with a new register, and writes the report. There is a kind for each place.
 fn take_log(out: &mut [u8], table: &[u8], kinds: &[u8], points: usize, fd: i32, path: &[u8])
-    requires { ⌜ (accepted (now table) ≡ true) × (points ≤ 16) ⌝ }
+    requires { ⌜ (accepted (now table) ≡ true) × (points ≤ 16) × (length (now kinds) ≤ 12416) ⌝ }
 {
     let mut register = [0u32; 14482];
     register::reset(table, &mut register);

@@ -5,8 +5,6 @@ use crate::entries::Log;
 use crate::entries::OF_NO_KIND;
 use crate::entries::REFUSED;
 use crate::entries::SHOWN;
-use crate::entries::count_of;
-use crate::entries::is_illegal;
 use coverage::items::put_leasts;
 use figures::group_present;
 use figures::millionths_of;
@@ -28,6 +26,18 @@ use words::bytes::byte;
 ghost use mathlib.Core.Path.{_≡_};
 ghost use mathlib.Core.Bool.{true};
 ghost use Rattle.model.specs.Format.{accepted};
+
+// The count of a place.
+fn count_of(register: &[u32], place: usize) -> u32 {
+    if place < 65536 {
+        return word(register, 2 + place);
+    }
+    0
+}
+
+fn is_illegal(kind: u8) -> bool {
+    (kind == 2) | (kind == 4) | (kind == 6)
+}
 
 // The lines of an illegal place that were shown.
 fn shown_of(count: u32) -> u32 {

@@ -1,10 +1,16 @@
 use mathlib.Core.Path.{sym}
+use mathlib.Core.List.{List}
+use Prim.Native.Nat.{ℕ, _≤_}
 use native.Mathlib.Omega.{arith}
+use lib.ListN.{length, take, length-take}
 use lib.Seq.{length-take-le}
 use borrow.Author.Needs.{needs}
 use Rattle.sampling.proofs.Joins.{largest-room}
 use Rattle.replay.proofs.with_table.Statement.{statement}
 use Rattle.replay.proofs.with_table.Tie as tie
+
+few : (n : ℕ) (l : List ℕ) → n ≤ 12416 → length (take n l) ≤ 12416
+few n l h = omega (arith, length-take n l)
 
 slice-aggregate-put-kinds : tie.Need-slice-aggregate-put-kinds
 slice-aggregate-put-kinds c = search needs
@@ -40,7 +46,9 @@ slice-aggregate-take-log : tie.Need-slice-aggregate-take-log
 slice-aggregate-take-log c = sym (length-take-le _ _ (omega arith))
 
 take-log-requires : tie.Need-take-log-requires
-take-log-requires c κs = search needs
+take-log-requires c κs =
+    let b = c .before .before .before .before .before .before .before .before .before .before in
+    (b .pre .0, b .pre .1 .points, few (b .args .f .counters) _ (b .pre .1 .counters))
 
 close-requires : tie.Need-close-requires
 close-requires c κs = search needs

@@ -7,16 +7,16 @@ use Rattle.replay.proofs.entries.take_entries.Statement.{statement}
 use Rattle.replay.proofs.entries.take_entries.Tie as tie
 
 abbrev Inv-loop : tie.InvT-loop
-Inv-loop out₀ register₀ report₀ table kinds bytes₀ next₀ entry₀ out register report bytes next entry = (length out ≡ length out₀) × (length register ≡ length register₀) × (length report ≡ length report₀) × (length bytes ≡ length bytes₀) × Held next (length bytes)
+Inv-loop out₀ register₀ reports₀ table illegals₀ bytes₀ next₀ out register reports illegals bytes next = (length out ≡ length out₀) × (length register ≡ length register₀) × (length reports ≡ length reports₀) × (length illegals ≡ length illegals₀) × (length bytes ≡ length bytes₀) × Held next (length bytes)
 
 abbrev μ-loop : tie.MeasureT-loop
-μ-loop out₀ register₀ report₀ table kinds bytes₀ next₀ entry₀ out register report bytes next entry = 18446744073709551615 - entry
+μ-loop out₀ register₀ reports₀ table illegals₀ bytes₀ next₀ out register reports illegals bytes next = 18446744073709551615 - next .entry
 
 loop-holds : tie.Need-loop-holds Inv-loop μ-loop
 loop-holds c = search needs
 
-take-entry-requires : tie.Need-take-entry-requires Inv-loop μ-loop
-take-entry-requires c κs = search needs
+take-next-requires : tie.Need-take-next-requires Inv-loop μ-loop
+take-next-requires c κs = search needs
 
 same-length : tie.Need-same-length Inv-loop μ-loop
 same-length c = search needs
@@ -30,20 +30,17 @@ same-length-3 c = search needs
 same-length-4 : tie.Need-same-length-4 Inv-loop μ-loop
 same-length-4 c = search needs
 
+same-length-5 : tie.Need-same-length-5 Inv-loop μ-loop
+same-length-5 c = search needs
+
 returns : tie.Need-returns Inv-loop μ-loop
 returns c = search needs
-
-add-entry : tie.Need-add-entry Inv-loop μ-loop
-add-entry c = search needs
 
 loop-less : tie.Need-loop-less Inv-loop μ-loop
 loop-less c = search needs
 
 loop-again : tie.Need-loop-again Inv-loop μ-loop
 loop-again c = search needs
-
-same-length-5 : tie.Need-same-length-5 Inv-loop μ-loop
-same-length-5 c = search needs
 
 same-length-6 : tie.Need-same-length-6 Inv-loop μ-loop
 same-length-6 c = search needs
@@ -53,6 +50,12 @@ same-length-7 c = search needs
 
 same-length-8 : tie.Need-same-length-8 Inv-loop μ-loop
 same-length-8 c = search needs
+
+same-length-9 : tie.Need-same-length-9 Inv-loop μ-loop
+same-length-9 c = search needs
+
+same-length-10 : tie.Need-same-length-10 Inv-loop μ-loop
+same-length-10 c = search needs
 
 returns-2 : tie.Need-returns-2 Inv-loop μ-loop
 returns-2 c = search needs
@@ -64,17 +67,18 @@ take-entries-spec =
     Inv-loop
     μ-loop
     loop-holds
-    take-entry-requires
+    take-next-requires
     same-length
     same-length-2
     same-length-3
     same-length-4
+    same-length-5
     returns
-    add-entry
     loop-less
     loop-again
-    same-length-5
     same-length-6
     same-length-7
     same-length-8
+    same-length-9
+    same-length-10
     returns-2)
