@@ -10,7 +10,7 @@ use lib.Dec.{eqb}
 use lib.ListN.{length, set, length-append, length-map}
 use borrow.Author.Tests.{eqb-true}
 use Rattle.model.specs.Lists.{upFrom, concatOf, asBit}
-use Rattle.model.specs.Table.{Point, Kind, cover, ignore, illegal, default, ValueBin, TransitionBin, Table}
+use Rattle.model.specs.Table.{Kind, cover, ignore, illegal, default, ValueBin, TransitionBin, Table}
 use Rattle.model.specs.Values.{lowest, binCount, inBin}
 use Rattle.model.specs.Counters.{Counter, valueBin, listed, auto, pointAt, autoCount, hasAuto, binCounters, valueCounters, autoCounters, transitionCounter, transitionCounters, pointCounters}
 use Rattle.model.specs.Format.{byte, kindFrom, pointRecord, accepted, tableOf}
