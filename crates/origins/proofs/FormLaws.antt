@@ -5,7 +5,6 @@ use mathlib.Core.Bool.{Bool, true, false}
 use mathlib.Core.List.{List, [], _∷_, map}
 use Prim.Native.Nat.{ℕ, suc, _+_, _-_, _≤_, _<_}
 use native.Mathlib.Omega.{arith}
-use native.Mathlib.Numerals.{add-one}
 use lib.Dec.{ltb}
 use lib.ListN.{length, length-map}
 use borrow.Author.Tests.{lt-ltb, le-ltb}
@@ -45,17 +44,3 @@ module _ (number : ℕ) (rs : List Range) where
   pub portion-length : (j n : ℕ) → length (portionParts number rs j n) ≡ n
   unfolding portionParts
   portion-length j n = length-map (upFrom j n) (λ k. portionRanges number k rs) ∙ length-upFrom j n
-
-  pub portion-start : portionParts number rs 0 (number - 0) ≡ portionParts number rs 0 number
-  portion-start = ap (portionParts number rs 0) (let z : number - 0 ≡ number = omega arith in z)
-
-  module _ (m j : ℕ) where
-    pub portion-turn : j < m → portionParts number rs j (m - j) ≡ portionRanges number j rs ∷ portionParts number rs (j + 1) (m - (j + 1))
-    unfolding portionParts upFrom
-    portion-turn h =
-        ap (portionParts number rs j) (one-left m j h)
-        ∙ ap (λ (i : ℕ). portionRanges number j rs ∷ map (λ k. portionRanges number k rs) (upFrom i (m - (j + 1)))) (sym (add-one j))
-
-    pub portion-end : m ≤ j → portionParts number rs j (m - j) ≡ []
-    unfolding portionParts upFrom
-    portion-end h = ap (portionParts number rs j) (none-left m j h)

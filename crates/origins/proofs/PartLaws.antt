@@ -2,24 +2,18 @@
 -- Assumes nothing.
 use mathlib.Core.Path.{_≡_, sym, ap, ap₂, _∙_}
 use mathlib.Core.Bool.{Bool, true, false, _&&_, cond, and-false}
-use mathlib.Core.List.{List, [], _∷_, _++_}
-use Prim.Native.Nat.{ℕ, _+_, _-_, _*_, _^_, _≤_, _<_, min}
+use mathlib.Core.List.{List, [], _∷_}
+use Prim.Native.Nat.{ℕ, _+_, _-_, _^_, _≤_, min}
 use native.Mathlib.Omega.{arith}
-use lib.Dec.{leb, eqb}
-use lib.ListN.{length, length-append}
-use borrow.Author.Tests.{eq-eqb, ne-eqb, leb-true}
-use Rattle.model.specs.Lists.{all}
+use lib.Dec.{eqb}
+use borrow.Author.Tests.{eq-eqb, ne-eqb}
 use Rattle.model.specs.Table.{Point, Form, Range, span, isCover}
 use Rattle.model.specs.Values.{lowest, highest}
 use Rattle.model.specs.Counters.{autoCount}
 use Rattle.model.specs.Format.{byte, u16, formFrom, kindFrom, pointRecord}
-use Rattle.model.specs.Ranges.{sizes}
-use Rattle.model.specs.Raw.{binAt, binsAt, rangesAt}
-use Rattle.model.proofs.Booleans.{and-left, and-right}
-use Rattle.model.proofs.Lists.{none-left, one-left}
+use Rattle.model.specs.Raw.{binAt, rangesAt}
 use Rattle.model.proofs.Fields.{fixed-form, cover-kind}
 use Rattle.ranges.specs.Types.{powerOf}
-use Rattle.values.specs.Points.{hasAutoAt}
 use Rattle.origins.specs.Parts.{valueParts, portionParts, parts, ownParts, autoParts}
 
 -- ---- by form

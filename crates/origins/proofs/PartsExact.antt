@@ -3,27 +3,26 @@
 use mathlib.Core.Path.{_≡_, refl, sym, ap, ap₂, _∙_}
 use mathlib.Core.Bool.{Bool, true, false, _&&_, cond}
 use mathlib.Core.List.{List, [], _∷_, _++_, map, append-nil, map-append}
-use Prim.Native.Nat.{ℕ, suc, _+_, _≤_, _<_, zero}
+use Prim.Native.Nat.{ℕ, suc, _+_, _≤_, zero}
 use native.Mathlib.Omega.{arith}
 use native.Mathlib.Numerals.{add-one}
-use native.Mathlib.Nat.{zero-add}
 use lib.Dec.{eqb}
-use lib.ListN.{length, getD, replicate, length-append, length-map}
+use lib.ListN.{length, replicate, length-append, length-map}
 use lib.Seq.{take-all}
 use borrow.Author.Tests.{eqb-true}
 use Rattle.model.specs.Lists.{upFrom}
-use Rattle.model.specs.Table.{Point, Kind, cover, ignore, illegal, default, Form, single, perValue, fixed, Range, span, ValueBin, Table, isCover, noValueBin}
+use Rattle.model.specs.Table.{Point, Kind, cover, ignore, illegal, default, Form, single, perValue, fixed, Range, span, ValueBin, Table, isCover}
 use Rattle.model.specs.Values.{lowest, highest, binCount, distinctValues}
-use Rattle.model.specs.Counters.{CoverBin, listed, auto, Counter, valueBin, pointAt, valueBinAt, autoCount, hasAuto, binCounters, valueCounters, autoCounters, transitionCounters, pointCounters, coverBins}
-use Rattle.model.specs.Ranges.{noValue, firstValues, portionRanges, binRanges, rangeCount, coverRanges}
+use Rattle.model.specs.Counters.{CoverBin, listed, auto, Counter, valueBin, pointAt, autoCount, hasAuto, binCounters, valueCounters, autoCounters, transitionCounters, pointCounters, coverBins}
+use Rattle.model.specs.Ranges.{firstValues, rangeCount}
 use Rattle.model.proofs.Readers.{All}
 use Rattle.model.proofs.WellFormed.{GoodBin, WellFormed}
 use Rattle.model.proofs.Exact.{first-exact, Divisible}
 use Rattle.model.proofs.TableExact.{point-at, divisible}
 use Rattle.model.proofs.Limits.{covers-append, covers-map, no-covers}
-use Rattle.model.proofs.Lists.{length-upFrom, map-map, map-numbers}
+use Rattle.model.proofs.Lists.{length-upFrom}
 use Rattle.arrays.specs.Flat.{covers, origin}
-use Rattle.origins.specs.Parts.{oneValue, valueParts, portionParts, parts, ownParts, autoParts, originsIn}
+use Rattle.origins.specs.Parts.{oneValue, valueParts, parts, ownParts, autoParts, originsIn}
 use Rattle.origins.proofs.FormLaws.{portion-length}
 
 -- ---- the bins of a value bin, by number
@@ -34,14 +33,6 @@ unfolding parts valueParts
 parts-count q single rs = refl
 parts-count q perValue rs = length-map (firstValues q rs) oneValue
 parts-count q (fixed n) rs = portion-length n rs 0 n
-
-parts-numbered : (q : Point) (f : Form) (rs : List Range) → map (binRanges q f rs) (upFrom 0 (length (parts (lowest q) f rs))) ≡ parts (lowest q) f rs
-unfolding parts valueParts portionParts upFrom
-parts-numbered q single rs = refl
-parts-numbered q perValue rs =
-    ap (λ (n : ℕ). map (binRanges q perValue rs) (upFrom 0 n)) (length-map (firstValues q rs) oneValue)
-    ∙ map-numbers (λ k. oneValue (getD (firstValues q rs) k noValue)) oneValue noValue (firstValues q rs) 0 (λ i h. ap (λ (k : ℕ). oneValue (getD (firstValues q rs) k noValue)) (zero-add i))
-parts-numbered q (fixed n) rs = ap (λ (m : ℕ). map (binRanges q (fixed n) rs) (upFrom 0 m)) (portion-length n rs 0 n)
 
 -- ---- the bins of some value bins, which are numbered from b on
 

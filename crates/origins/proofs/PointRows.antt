@@ -1,20 +1,17 @@
 -- An array with the cover bins of point p from 256 p on, point after point.
 -- Assumes nothing.
 use mathlib.Core.Path.{_≡_, sym, ap, ap₂, _∙_}
-use mathlib.Core.List.{List, [], _∷_, map}
+use mathlib.Core.List.{List, map}
 use mathlib.Core.Logic.{⊎-elim, inl, inr}
 use Prim.Native.Nat.{ℕ, _+_, _-_, _*_, _≤_, _<_}
 use native.Mathlib.Decide.{decLe}
 use native.Mathlib.Omega.{arith}
-use native.Mathlib.Numerals.{add-one}
 use lib.ListN.{length, getD, length-map}
-use Rattle.model.specs.Lists.{upFrom}
 use Rattle.model.specs.Table.{Table}
 use Rattle.model.specs.Counters.{CoverBin, noCoverBin}
 use Rattle.arrays.specs.Put.{put}
-use Rattle.model.specs.Register.{pointTotal}
-use Rattle.model.proofs.Lists.{none-left, one-left, getD-map}
-use Rattle.arrays.specs.Flat.{covers, coverCounts}
+use Rattle.model.proofs.Lists.{getD-map}
+use Rattle.arrays.specs.Flat.{covers}
 use Rattle.arrays.proofs.PutLaws.{put-in, put-before}
 
 -- those of the first n points stand there

@@ -1,6 +1,6 @@
 -- The ranges of each cover bin of a point, in order, before excluded values leave it, without bin numbers.
 -- Assumes nothing.
-use Prim.Native.Nat.{ℕ, _+_, _*_}
+use Prim.Native.Nat.{ℕ, _+_, _-_, _*_, _/_}
 use mathlib.Core.Bool.{Bool, _&&_, cond}
 use mathlib.Core.List.{List, [], _∷_, _++_, map}
 use lib.Dec.{eqb}
@@ -14,6 +14,7 @@ use Rattle.model.specs.Format.{pointRecord}
 use Rattle.model.specs.Raw.{binsAt}
 use Rattle.values.specs.Points.{hasAutoAt}
 use Rattle.layout.specs.declared.Layout.{Layout}
+use Rattle.spans.specs.declared.collects.Bins.{Bins}
 
 -- ---- the bins that a value bin stands for
 
@@ -50,9 +51,13 @@ originsIn low p i (b ∷ bs) = replicate (length (ownParts low p b)) i ++ origin
 
 -- ---- a point, by the places of its table
 
--- the number of its value bin for each cover bin of point p; 65,535 for an auto bin
-unfoldable pub pointOrigins : List ℕ → Layout → ℕ → List ℕ
-pointOrigins s l p =
+-- the number of the first value bin of `own`
+abbrev pub firstOf : Layout → Bins → ℕ
+firstOf l own = (own .bins - l .bins) / 8
+
+-- the number of its value bin for each cover bin of point p, whose value bins are among those of `own`; 65,535 for an auto bin
+unfoldable pub pointOrigins : List ℕ → Layout → Bins → ℕ → List ℕ
+pointOrigins s l own p =
     let q = pointRecord s (l .points + 11 * p) in
-    originsIn (lowest q) p 0 (binsAt s (l .bins) (l .ranges) (l .«bin_count»))
-    ++ replicate (length (autoParts (hasAutoAt s p (l .bins) (l .«bin_count») (l .transitions) (l .«transition_count»)) (lowest q) (highest q) (autoCount q))) 65535
+    originsIn (lowest q) p (firstOf l own) (binsAt s (own .bins) (own .ranges) (own .count))
+    ++ replicate (length (autoParts (hasAutoAt s p (own .bins) (own .count) (l .transitions) (l .«transition_count»)) (lowest q) (highest q) (autoCount q))) 65535

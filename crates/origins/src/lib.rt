@@ -1,7 +1,8 @@
 // The value bin that each cover bin of a table comes of.
 use crate::listed::put_point_origins;
+use layout::Layout;
 use layout::layout_of;
-use words::bytes::read2;
+use spans::part::own_part;
 ghost use mathlib.Core.Path.{_≡_};
 ghost use mathlib.Core.Bool.{true};
 ghost use mathlib.Core.List.{map};
@@ -9,18 +10,19 @@ ghost use Prim.Native.Nat.{_+_, _*_, _≤_, _<_};
 ghost use lib.ListN.{length};
 ghost use Rattle.model.specs.Format.{accepted, tableOf};
 ghost use Rattle.model.specs.Register.{pointTotal};
+ghost use Rattle.layout.specs.Places.{layoutOf, Small};
 ghost use Rattle.arrays.specs.Put.{put};
 ghost use Rattle.arrays.specs.Flat.{covers, origin, Origins};
 
 pub mod listed;
 
-// Of point p.
-fn put_origins_at(out: &mut [u16], t: &[u8], p: usize)
-    requires { ⌜ (accepted (now t) ≡ true) × (p < pointTotal (tableOf (now t))) × (256 * pointTotal (tableOf (now t)) ≤ length (now out)) ⌝ }
+// Of point p, in a table with that layout.
+fn put_origins_at(out: &mut [u16], t: &[u8], l: Layout, p: usize)
+    requires { ⌜ (accepted (now t) ≡ true) × (l ≡ layoutOf (now t)) × Small l × (p < pointTotal (tableOf (now t))) × (256 * pointTotal (tableOf (now t)) ≤ length (now out)) ⌝ }
     ensures { λ _. ⌜ now (out .exit) ≡ put (256 * p) (map origin (covers (tableOf (now (t .entry))) p)) (now (out .entry)) ⌝ }
 {
-    let l = layout_of(t);
-    put_point_origins(out, 256 * p, t, l, p as u8);
+    let own = own_part(t, p as u8);
+    put_point_origins(out, 256 * p, t, l, own, p as u8);
 }
 
 // The value bin that each cover bin comes of: those of point p stand from 256 p on.
@@ -28,10 +30,11 @@ pub fn put_origins(origins: &mut [u16], t: &[u8])
     requires { ⌜ (accepted (now t) ≡ true) × (256 * pointTotal (tableOf (now t)) ≤ length (now origins)) ⌝ }
     ensures { λ _. ⌜ Origins (tableOf (now (t .entry))) (now (origins .exit)) × (length (now (origins .exit)) ≡ length (now (origins .entry))) ⌝ }
 {
-    let n = read2(t, 0) as usize;
+    let l = layout_of(t);
+    let n = l.point_count;
     let mut p = 0;
     while p < n {
-        put_origins_at(origins, t, p);
+        put_origins_at(origins, t, l, p);
         p += 1;
     }
 }

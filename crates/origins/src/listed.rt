@@ -2,6 +2,7 @@
 use arrays::put_same_u16;
 use layout::Layout;
 use ranges::next::next_in;
+use spans::collects::Bins;
 use values::points::auto_count;
 use values::points::has_auto;
 use values::points::lowest_at;
@@ -16,11 +17,11 @@ ghost use Rattle.model.specs.Format.{pointRecord};
 ghost use Rattle.model.specs.Raw.{rangesAt, binAt, binsAt};
 ghost use Rattle.ranges.specs.Types.{Wide};
 ghost use Rattle.arrays.specs.Put.{put};
-ghost use Rattle.origins.specs.Parts.{valueParts, parts, ownParts, autoParts, originsIn, pointOrigins};
+ghost use Rattle.origins.specs.Parts.{valueParts, parts, ownParts, autoParts, originsIn, firstOf, pointOrigins};
 
 // How many values from low up k ranges from cover on have; 257 if there are more.
 fn value_count(t: &[u8], cover: usize, k: usize, low: u64) -> usize
-    requires { ⌜ (cover ≤ 1000000000) × (k ≤ 65535) × (low ≤ 8589934592) ⌝ }
+    requires { ⌜ (cover ≤ 2000000000) × (k ≤ 65535) × (low ≤ 8589934592) ⌝ }
     ensures { λ r. ⌜ (r ≡ length (valueParts 257 (rangesAt (now (t .entry)) cover k) low)) × (r ≤ 257) ⌝ }
 {
     let mut x = low;
@@ -38,7 +39,7 @@ fn value_count(t: &[u8], cover: usize, k: usize, low: u64) -> usize
 
 // How many bins the cover bin at b stands for, its ranges from r on.
 fn cover_count(t: &[u8], b: usize, r: usize, low: u64) -> usize
-    requires { ⌜ (b ≤ 1000000000) × (r ≤ 1000000000) × (low ≤ 8589934592) ⌝ }
+    requires { ⌜ (b ≤ 2000000000) × (r ≤ 2000000000) × (low ≤ 8589934592) ⌝ }
     ensures { λ m. ⌜ (m ≡ length (parts low (binAt (now (t .entry)) b r .form) (binAt (now (t .entry)) b r .ranges))) × (m ≤ 65535) ⌝ }
 {
     let form = byte(t, b + 2);
@@ -55,7 +56,7 @@ fn cover_count(t: &[u8], b: usize, r: usize, low: u64) -> usize
 
 // The same of a value bin; 0 where it is no cover bin of point p.
 fn own_count(t: &[u8], b: usize, r: usize, p: u8, low: u64) -> usize
-    requires { ⌜ (b ≤ 1000000000) × (r ≤ 1000000000) × (low ≤ 8589934592) ⌝ }
+    requires { ⌜ (b ≤ 2000000000) × (r ≤ 2000000000) × (low ≤ 8589934592) ⌝ }
     ensures { λ m. ⌜ (m ≡ length (ownParts low p (binAt (now (t .entry)) b r))) × (m ≤ 65535) ⌝ }
 {
     let q = byte(t, b);
@@ -69,19 +70,27 @@ fn own_count(t: &[u8], b: usize, r: usize, p: u8, low: u64) -> usize
     cover_count(t, b, r, low)
 }
 
-// Value bin after value bin.
-fn put_listed(out: &mut [u16], at: usize, t: &[u8], l: Layout, p: u8, low: u64) -> usize
-    requires { ⌜ (l .bins ≤ 16777216) × (l .ranges ≤ 16777216) × (l .«bin_count» ≤ 512) × (low ≤ 8589934592) × (at + length (originsIn low p 0 (binsAt (now t) (l .bins) (l .ranges) (l .«bin_count»))) ≤ length (now out)) ⌝ }
-    ensures { λ e. ⌜ (e ≡ at + length (originsIn low p 0 (binsAt (now (t .entry)) (l .bins) (l .ranges) (l .«bin_count»)))) × (now (out .exit) ≡ put at (originsIn low p 0 (binsAt (now (t .entry)) (l .bins) (l .ranges) (l .«bin_count»))) (now (out .entry))) ⌝ }
+// Value bin after value bin of `own`, whose first one is number `first`.
+fn put_listed(
+    out: &mut [u16],
+    at: usize,
+    t: &[u8],
+    own: Bins,
+    first: usize,
+    p: u8,
+    low: u64,
+) -> usize
+    requires { ⌜ (own .bins < 1000000000) × (own .ranges < 1000000000) × (first + own .count ≤ 512) × (low ≤ 8589934592) × (at + length (originsIn low p first (binsAt (now t) (own .bins) (own .ranges) (own .count))) ≤ length (now out)) ⌝ }
+    ensures { λ e. ⌜ (e ≡ at + length (originsIn low p first (binsAt (now (t .entry)) (own .bins) (own .ranges) (own .count)))) × (now (out .exit) ≡ put at (originsIn low p first (binsAt (now (t .entry)) (own .bins) (own .ranges) (own .count))) (now (out .entry))) ⌝ }
 {
-    let n = l.bin_count;
+    let n = own.count;
     let mut c = at;
-    let mut b = l.bins;
-    let mut r = l.ranges;
+    let mut b = own.bins;
+    let mut r = own.ranges;
     let mut i: usize = 0;
     while i < n {
         let m = own_count(t, b, r, p, low);
-        c = put_same_u16(out, c, m, i as u16);
+        c = put_same_u16(out, c, m, (first + i) as u16);
         let k = read2(t, b + 6);
         b += 8;
         r += 17 * k as usize;
@@ -103,16 +112,17 @@ fn auto_total(t: &[u8], point: usize, has: bool) -> usize
     auto_count(all, read2(t, point + 9))
 }
 
-// Those of point p, from at on.
-pub fn put_point_origins(out: &mut [u16], at: usize, t: &[u8], l: Layout, p: u8) -> usize
-    requires { ⌜ (l .points ≤ 16777216) × (l .bins ≤ 16777216) × (l .ranges ≤ 16777216) × (l .«bin_count» ≤ 512) × (l .transitions < 1000000000) × (l .«transition_count» < 65536) × Wide (now t) (l .points + 11 * p) ⌝ }
-    requires { ⌜ at + length (pointOrigins (now t) l p) ≤ length (now out) ⌝ }
-    ensures { λ e. ⌜ (e ≡ at + length (pointOrigins (now (t .entry)) l p)) × (now (out .exit) ≡ put at (pointOrigins (now (t .entry)) l p) (now (out .entry))) ⌝ }
+// Those of point p, whose value bins are among those of `own`, from at on.
+pub fn put_point_origins(out: &mut [u16], at: usize, t: &[u8], l: Layout, own: Bins, p: u8) -> usize
+    requires { ⌜ (l .points ≤ 16777216) × (l .transitions < 1000000000) × (l .«transition_count» < 65536) × Wide (now t) (l .points + 11 * p) ⌝ }
+    requires { ⌜ (own .bins < 1000000000) × (own .ranges < 1000000000) × (l .bins ≤ own .bins) × (firstOf l own + own .count ≤ 512) × (at + length (pointOrigins (now t) l own p) ≤ length (now out)) ⌝ }
+    ensures { λ e. ⌜ (e ≡ at + length (pointOrigins (now (t .entry)) l own p)) × (now (out .exit) ≡ put at (pointOrigins (now (t .entry)) l own p) (now (out .entry))) ⌝ }
 {
     let point = l.points + 11 * (p as usize);
     let low = lowest_at(t, point);
-    let has = has_auto(t, l.bins, l.bin_count, l.transitions, l.transition_count, p);
+    let has = has_auto(t, own.bins, own.count, l.transitions, l.transition_count, p);
     let m = auto_total(t, point, has);
-    let e = put_listed(out, at, t, l, p, low);
+    let first = (own.bins - l.bins) / 8;
+    let e = put_listed(out, at, t, own, first, p, low);
     put_same_u16(out, e, m, 65535)
 }

@@ -1,43 +1,25 @@
 -- The part of the value bins from the first to the last of a point says the same of the point as all of them do.
 -- Assumes nothing.
 use mathlib.Core.Path.{_≡_, refl, sym, ap, ap₂, _∙_, subst}
-use mathlib.Core.Bool.{Bool, true, false, not, _&&_, _||_, cond}
+use mathlib.Core.Bool.{Bool, true, false, not, _&&_, cond}
 use mathlib.Core.List.{List, [], _∷_, _++_}
 use Prim.Native.Nat.{ℕ, zero, suc, _+_, _-_, _*_, _≤_}
 use native.Mathlib.Omega.{arith}
-use lib.Dec.{eqb, leb}
+use lib.Dec.{eqb}
 use lib.ListN.{length}
 use Rattle.model.specs.Table.{ValueBin, isCover}
 use Rattle.model.specs.Values.{lowest}
-use Rattle.model.specs.Format.{byte, u16, pointRecord}
+use Rattle.model.specs.Format.{u16, pointRecord}
 use Rattle.model.specs.Raw.{binsAt}
-use Rattle.values.specs.Points.{isOwn, someOwn}
-use Rattle.spans.specs.Part.{OthersTo, OthersFrom, rangesPast, PartOf}
-use Rattle.spans.proofs.PartLaws.{shift, first-other, ownBins, own-part}
+use Rattle.values.specs.Points.{someOwn}
+use Rattle.spans.specs.Part.{rangesPast, PartOf}
+use Rattle.spans.proofs.PartLaws.{ownBins, own-part, part-some}
 use Rattle.parts.specs.Rows.{Source, binSource, ownSources, autoSource, partTotal}
 use Rattle.parts.specs.Words.{allRangeWords, allBinWords, ownListed, Fits, Room, sourcesAt}
 use Rattle.parts.proofs.Plans.{range-words, bin-words, part-count}
 
 module _ (s : List ℕ) (p : ℕ) where
   -- ---- bins left out in front, and at the end
-
-  some-skip : (k m a n : ℕ) → n ≡ k + m → OthersTo s p a k → someOwn s p true 8 a n ≡ someOwn s p true 8 (a + 8 * k) m
-  unfolding someOwn
-  some-skip zero m a n e h = ap₂ (λ (x y : ℕ). someOwn s p true 8 x y) (let z : a ≡ a + 8 * 0 = omega arith in z) (let z : n ≡ m = omega arith in z)
-  some-skip (suc k) m a zero e h = absurd (omega arith)
-  some-skip (suc k) m a (suc n) e h =
-      ap (λ (c : Bool). (c && (eqb (byte s (a + 1)) 0 || (true && leb 3 (byte s (a + 1))))) || someOwn s p true 8 (a + 8) n) (first-other s p a (h 0 (omega arith)))
-      ∙ some-skip k m (a + 8) n (omega arith) (λ j i. shift s p a j (h (suc j) (omega arith)))
-      ∙ ap (λ (x : ℕ). someOwn s p true 8 x m) (let z : a + 8 + 8 * k ≡ a + 8 * suc k = omega arith in z)
-
-  some-trim : (m n a : ℕ) → m ≤ n → OthersFrom s p a n m → someOwn s p true 8 a n ≡ someOwn s p true 8 a m
-  unfolding someOwn
-  some-trim zero zero a e h = refl
-  some-trim zero (suc n) a e h =
-      ap (λ (c : Bool). (c && (eqb (byte s (a + 1)) 0 || (true && leb 3 (byte s (a + 1))))) || someOwn s p true 8 (a + 8) n) (first-other s p a (h 0 (omega arith) (omega arith)))
-      ∙ some-trim zero n (a + 8) (omega arith) (λ j g i. shift s p a j (h (suc j) (omega arith) (omega arith)))
-  some-trim (suc m) zero a e h = absurd (omega arith)
-  some-trim (suc m) (suc n) a e h = ap (isOwn s p true a ||_) (some-trim m n (a + 8) (omega arith) (λ j g i. shift s p a j (h (suc j) (omega arith) (omega arith))))
 
   listed-skip : (k m a n : ℕ) → n ≡ k + m → ownListed s p (a + 8 * k) m ≤ ownListed s p a n
   unfolding ownListed
@@ -81,15 +63,6 @@ module _ (s : List ℕ) (p : ℕ) where
     same-sources : (low : ℕ) → ownSources low p (binsAt s b q m) ≡ ownSources low p (binsAt s a r n)
     same-sources low = sym (sources-own low (binsAt s b q m)) ∙ ap (ownSources low p) (own-part s p a r n b q m o) ∙ sources-own low (binsAt s a r n)
 
-    same-own : someOwn s p true 8 b m ≡ someOwn s p true 8 a n
-    same-own =
-        let k = o .skipped in
-        ap (λ (x : ℕ). someOwn s p true 8 x m) (o .place)
-        ∙ sym
-        (some-skip k (n - k) a n (omega (arith, o .few)) (o .others)
-        ∙ some-trim m (n - k) (a + 8 * k) (omega (arith, o .few))
-        (λ j g i. ap (λ (x : ℕ). eqb (byte s x) p) (let z : a + 8 * k + 8 * j ≡ a + 8 * (k + j) = omega arith in z) ∙ o .others₁ (k + j) (omega arith) (omega arith)))
-
     pub part-fits : (low : ℕ) → Fits s low p a r n → Fits s low p b q m
     part-fits low f =
         let k = o .skipped in
@@ -114,4 +87,4 @@ module _ (s : List ℕ) (p : ℕ) where
     pub part-sources : (point t k : ℕ) → sourcesAt s p point b q m t k ≡ sourcesAt s p point a r n t k
     unfolding sourcesAt
     part-sources point t k =
-        ap₂ (λ (xs : List Source) (c : Bool). xs ++ cond (not c && not (someOwn s p false 4 t k)) (autoSource (pointRecord s point) ∷ []) []) (same-sources (lowest (pointRecord s point))) same-own
+        ap₂ (λ (xs : List Source) (c : Bool). xs ++ cond (not c && not (someOwn s p false 4 t k)) (autoSource (pointRecord s point) ∷ []) []) (same-sources (lowest (pointRecord s point))) (part-some s p a r n b q m o)

@@ -14,7 +14,7 @@ use Rattle.model.specs.Values.{inRanges, binCount}
 use Rattle.model.specs.Counters.{listed, auto, Counter, valueBin, defaultBin, illegalBin, transition, illegalTransition, crossBin, illegalCross, product, pointAt, valueBinAt, transitionBinAt, pointOf, autoCount, hasAuto, holds, listedValue, binCounters, valueCounters, transitionCounter, transitionCounters, autoCounters}
 use Rattle.model.specs.Sampling.{guardTrue, reading, isIn, Stretches, coverGuard, coverHit, hits}
 use Rattle.model.proofs.Readers.{All, all-append}
-use Rattle.model.proofs.Lists.{all-row, map-all, map-one}
+use Rattle.model.proofs.Lists.{all-row, map-one}
 use Rattle.arrays.specs.Flat.{hitFlags}
 
 -- ---- a point's counters
@@ -99,22 +99,6 @@ module _ (t : Table) (p : ℕ) where
 -- ---- what a sample hits of the value bins
 
 module _ (t : Table) (w : List ℕ) (p : ℕ) where
-  -- no stretch matters
-  same-hits : (m m′ : Stretches) (c : Counter) → ValueOf t p c → asBit (hits t w m c) ≡ asBit (hits t w m′ c)
-  unfolding hits
-  same-hits m m′ (valueBin c) e = refl
-  same-hits m m′ (defaultBin b) e = refl
-  same-hits m m′ (illegalBin b) e = refl
-  same-hits m m′ (transition b) e = absurd e
-  same-hits m m′ (illegalTransition b) e = absurd e
-  same-hits m m′ (crossBin c i) e = absurd e
-  same-hits m m′ (illegalCross c i) e = absurd e
-  same-hits m m′ (product c cs) e = absurd e
-
-  pub any-stretches : (m m′ : Stretches) → hitFlags t w m (valueCounters t p 0 (t .valueBins) ++ autoCounters t p) ≡ hitFlags t w m′ (valueCounters t p 0 (t .valueBins) ++ autoCounters t p)
-  unfolding hitFlags
-  any-stretches m m′ = map-all (ValueOf t p) (λ c. asBit (hits t w m c)) (λ c. asBit (hits t w m′ c)) (same-hits m m′) (valueCounters t p 0 (t .valueBins) ++ autoCounters t p) (all-values t p)
-
   -- nothing is hit where the reading is no value
   module _ (none : (f : ℕ → Bool) → isIn f (reading t w p) ≡ false) (m : Stretches) where
     no-reading : (q : ℕ) → q ≡ p → (b : Bool) (f : ℕ → Bool) → asBit (b && isIn f (reading t w q)) ≡ 0

@@ -1,23 +1,21 @@
 -- The cover bins among the points' counters.
 -- Assumes nothing.
-use mathlib.Core.Path.{_≡_, refl, sym, ap, ap₂, _∙_, subst}
+use mathlib.Core.Path.{_≡_, refl, sym, ap, ap₂, _∙_}
 use mathlib.Core.Bool.{Bool, true, false, cond}
 use mathlib.Core.List.{List, [], _∷_, _++_, map, append-assoc, map-append}
-use Prim.Native.Nat.{ℕ, zero, suc, _+_, _-_, _*_, _≤_, _<_}
+use Prim.Native.Nat.{ℕ, zero, suc, _+_, _-_, _≤_, _<_}
 use native.Mathlib.Omega.{arith}
-use lib.Dec.{eqb, ltb}
+use lib.Dec.{eqb}
 use lib.ListN.{length, getD, take, length-append, length-map, length-take, List·getD-append}
 use lib.Seq.{getD-take, getD-append-add}
-use borrow.Author.Tests.{eq-eqb, ne-eqb, ltb-true, ltb-false}
+use borrow.Author.Tests.{eq-eqb, ne-eqb}
 use Rattle.model.specs.Lists.{upFrom, concatOf, asBit}
 use Rattle.model.specs.Table.{Table}
-use Rattle.model.specs.Counters.{Counter, valueBin, defaultBin, illegalBin, transition, illegalTransition, crossBin, illegalCross, product, noCoverBin, pointCounters, coverBins}
+use Rattle.model.specs.Counters.{Counter, valueBin, defaultBin, illegalBin, transition, illegalTransition, crossBin, illegalCross, product, pointCounters, coverBins}
 use Rattle.model.specs.Register.{pointTotal}
-use Rattle.model.proofs.Lists.{one-left, none-left, getD-map}
-use Rattle.arrays.specs.Put.{put}
-use Rattle.arrays.specs.Flat.{kindOf, kindsOf, allPointCounters, pointStart, covers, Tells}
-use Rattle.arrays.proofs.PutLaws.{put-in, put-before}
-use Rattle.points.specs.Gates.{pickOne, picked, Kinded, Flagged, Gathered}
+use Rattle.model.proofs.Lists.{one-left, none-left}
+use Rattle.arrays.specs.Flat.{kindOf, kindsOf, allPointCounters, pointStart, covers}
+use Rattle.points.specs.Gates.{pickOne, picked, Kinded, Flagged}
 
 pub pick-none : (k x : ℕ) → (k ≡ 0 → ⊥) → pickOne k x ≡ []
 pick-none k x h = ap (λ (b : Bool). cond b (x ∷ []) []) (ne-eqb k 0 h)
@@ -130,42 +128,3 @@ module _ (t : Table) (p : ℕ) (inside : p < pointTotal t) where
 pub kinds-long : (t : Table) (kinds : List ℕ) → Kinded t kinds → length (allPointCounters t) ≤ length kinds
 unfolding Kinded kindsOf
 kinds-long t kinds e = omega (arith, ap length e, length-take (length (allPointCounters t)) kinds, length-map (allPointCounters t) kindOf)
-
--- ---- a gate, point after point
-
-abbrev pub partOf : Table → List ℕ → List ℕ → ℕ → List ℕ
-partOf t kinds flags q = picked kinds flags (pointStart t q) (length (pointCounters t q))
-
--- the parts of the points before p stand in the gate
-unfoldable pub Parts : Table → List ℕ → List ℕ → ℕ → List ℕ → Type 0
-Parts t kinds flags p gate = (q : ℕ) → q < p → (k : ℕ) → k < length (partOf t kinds flags q) → getD gate (256 * q + k) 0 ≡ getD (partOf t kinds flags q) k 0
-
-module _ (t : Table) (kinds flags : List ℕ) where
-  pub parts-none : (gate : List ℕ) → Parts t kinds flags 0 gate
-  unfolding Parts
-  parts-none gate q h k l = absurd (omega arith)
-
-  pub parts-next : (p : ℕ) (gate gate′ : List ℕ) → ((q : ℕ) → q < p → length (pointCounters t q) ≤ 256) → 256 * p ≤ length gate → gate′ ≡ put (256 * p) (partOf t kinds flags p) gate → Parts t kinds flags p gate
-      → Parts t kinds flags (p + 1) gate′
-  unfolding Parts
-  parts-next p gate gate′ few room e h q b k l = go (ltb q p) refl
-    where
-      go : (c : Bool) → ltb q p ≡ c → getD gate′ (256 * q + k) 0 ≡ getD (partOf t kinds flags q) k 0
-      go true z =
-          let y : q < p = ltb-true q p z in
-          ap (λ (x : List ℕ). getD x (256 * q + k) 0) e
-          ∙ put-before (256 * p) (partOf t kinds flags p) gate (256 * q + k) 0 room (omega (arith, few q y, picked-few kinds flags (length (pointCounters t q)) (pointStart t q)))
-          ∙ h q y k l
-      go false z =
-          let y : q ≡ p = omega (arith, ltb-false q p z) in
-          ap (λ (x : List ℕ). getD x (256 * q + k) 0) e
-          ∙ ap (λ (i : ℕ). getD (put (256 * p) (partOf t kinds flags p) gate) (256 * i + k) 0) y
-          ∙ put-in (256 * p) (partOf t kinds flags p) gate k 0 room (subst (λ (i : ℕ). k < length (partOf t kinds flags i)) y l)
-          ∙ ap (λ (i : ℕ). getD (partOf t kinds flags i) k 0) (sym y)
-
-  pub parts-gathered : (n : ℕ) (gate : List ℕ) → n ≡ pointTotal t → Kinded t kinds → Parts t kinds flags n gate → Gathered t flags gate
-  unfolding Parts Gathered Tells
-  parts-gathered n gate e kd h g f p k b l =
-      let z = picked-covers t p b g kinds flags kd f in
-      h p (omega arith) k (omega (arith, ap length z, length-map (covers t p) (λ b. asBit (g (valueBin b)))))
-      ∙ ap (λ (x : List ℕ). getD x k 0) z ∙ getD-map (λ b. asBit (g (valueBin b))) (covers t p) k noCoverBin 0 l

@@ -1,6 +1,6 @@
 -- The kinds of a point's counters, by the places of its bins, are the model's.
 -- Assumes nothing.
-use mathlib.Core.Path.{_≡_, refl, sym, ap, ap₂, _∙_}
+use mathlib.Core.Path.{_≡_, refl, sym, ap, ap₂, _∙_, subst}
 use mathlib.Core.Bool.{Bool, true, false, _&&_, cond}
 use mathlib.Core.List.{List, [], _∷_, _++_, map, map-append}
 use Prim.Native.Nat.{ℕ, zero, suc, _+_, _-_, _*_, _≤_, _<_}
@@ -10,7 +10,7 @@ use lib.Dec.{eqb}
 use lib.ListN.{length, set, length-append, length-map}
 use borrow.Author.Tests.{eqb-true}
 use Rattle.model.specs.Lists.{upFrom, concatOf, asBit}
-use Rattle.model.specs.Table.{Point, Kind, cover, ignore, illegal, default, ValueBin, TransitionBin, Table}
+use Rattle.model.specs.Table.{Kind, cover, ignore, illegal, default, ValueBin, TransitionBin, Table}
 use Rattle.model.specs.Values.{lowest, binCount, inBin}
 use Rattle.model.specs.Counters.{Counter, valueBin, listed, auto, pointAt, autoCount, hasAuto, binCounters, valueCounters, autoCounters, transitionCounter, transitionCounters, pointCounters}
 use Rattle.model.specs.Format.{byte, kindFrom, pointRecord, accepted, tableOf}
@@ -30,12 +30,15 @@ use Rattle.arrays.proofs.Written.{both-written}
 use Rattle.arrays.proofs.FlatLaws.{kinds-length}
 use Rattle.layout.specs.declared.Layout.{Layout}
 use Rattle.layout.specs.Places.{layoutOf}
-use Rattle.values.specs.Flags.{fixedFlags}
+use Rattle.values.specs.Flags.{fixedFlags, binFits, fits}
 use Rattle.values.specs.Points.{hasAutoAt, autoPart}
 use Rattle.values.proofs.FlagsExact.{cover-exact}
 use Rattle.values.proofs.PointExact.{auto-raw, few-values, bins-raw}
+use Rattle.spans.specs.declared.collects.Bins.{Bins}
+use Rattle.spans.specs.Part.{PartOf, OwnPart}
+use Rattle.spans.proofs.PartLaws.{ownBins, own-part, part-auto, part-all}
 use Rattle.points.specs.Kinds.{kindsBy, binKinds, kindsIn, transitionKind, transitionKinds, transitionKindsFrom}
-use Rattle.points.proofs.ValueLaws.{record-is}
+use Rattle.points.proofs.ValueLaws.{places-ready, record-is}
 use Rattle.points.proofs.TransitionExact.{bins-are}
 use Rattle.points.proofs.AllLaws.{few-here, points-turn, points-end, points-all, counters-room}
 
@@ -75,6 +78,20 @@ module _ (t : Table) (ok : WellFormed t) (p : ℕ) where
           → map kindOf (cond c (binCounters b (u .kind) (binCount (pointAt t p) (u .form) (u .ranges))) []) ≡ cond c (kindsBy (lowest (pointAt t p)) (u .kind) u) []
       go true k few = bin-kinds b u (good .0) (eqb-true (u .point) p k) few
       go false k few = refl
+
+-- those from the first to the last bin of the point
+kinds-own : (low p : ℕ) (us : List ValueBin) → kindsIn low p (ownBins p us) ≡ kindsIn low p us
+unfolding kindsIn binKinds ownBins
+kinds-own low p [] = refl
+kinds-own low p (u ∷ us) = go (eqb (u .point) p) refl (kinds-own low p us)
+  where
+    go : (c : Bool) → eqb (u .point) p ≡ c → kindsIn low p (ownBins p us) ≡ kindsIn low p us
+        → kindsIn low p (cond c (u ∷ ownBins p us) (ownBins p us)) ≡ cond c (kindsBy low (u .kind) u) [] ++ kindsIn low p us
+    go true e h = rw e (ap (kindsBy low (u .kind) u ++_) h)
+    go false e h = h
+
+part-kinds : (s : List ℕ) (low p a r n b q m : ℕ) → PartOf s p a r n b q m → kindsIn low p (binsAt s b q m) ≡ kindsIn low p (binsAt s a r n)
+part-kinds s low p a r n b q m o = sym (kinds-own low p (binsAt s b q m)) ∙ ap (kindsIn low p) (own-part s p a r n b q m o) ∙ kinds-own low p (binsAt s a r n)
 
 auto-kinds : (t : Table) (p v : ℕ) → map kindOf (autoCounters t p) ≡ autoPart (hasAuto t p) false v (pointAt t p)
 unfolding fixedFlags
@@ -132,26 +149,47 @@ module _ (s : List ℕ) (ok : accepted s ≡ true) (p : ℕ) (inside : p < point
       (bins-are s ok ∙ ap (λ (at : ℕ). transitionsAt s at (recordsPlace s 4) (recordsPlace s 5) (recordsPlace s 6) (recordCount s 3)) (let z : recordsPlace s 3 ≡ recordsPlace s 3 + 4 * 0 = omega arith in z))
       ∙ transition-kinds s p (recordsPlace s 3) (recordCount s 3) 0 (recordsPlace s 4) (recordsPlace s 5) (recordsPlace s 6))
 
-  module _ (l : Layout) (e : l ≡ layoutOf s) (low : ℕ) (has : Bool) (el : low ≡ lowest (pointRecord s (l .points + 11 * p)))
-      (eh : has ≡ hasAutoAt s p (l .bins) (l .«bin_count») (l .transitions) (l .«transition_count»)) where
-    pub kind-parts : kindsOf (pointCounters (tableOf s) p)
-        ≡ (kindsIn low p (binsAt s (l .bins) (l .ranges) (l .«bin_count»)) ++ autoPart has false low (pointRecord s (l .points + 11 * p))) ++ transitionKindsFrom s p (l .transitions) 0 (l .«transition_count»)
+  module _ (l : Layout) (e : l ≡ layoutOf s) (own : Bins) (o : OwnPart s p (own .bins) (own .ranges) (own .count)) where
+    part : PartOf s p (l .bins) (l .ranges) (l .«bin_count») (own .bins) (own .ranges) (own .count)
     unfolding layoutOf
-    kind-parts =
-        let x = pointRecord s (l .points + 11 * p) in
-        raw-kinds
-        ∙ sym (ap₂ (λ (v : ℕ) (b : Bool). (kindsIn v p (binsAt s (l .bins) (l .ranges) (l .«bin_count»)) ++ autoPart b false v x) ++ transitionKindsFrom s p (l .transitions) 0 (l .«transition_count»)) el eh
-        ∙ ap (λ (y : Point). (kindsIn (lowest y) p (binsAt s (l .bins) (l .ranges) (l .«bin_count»)) ++ autoPart (hasAutoAt s p (l .bins) (l .«bin_count») (l .transitions) (l .«transition_count»)) false (lowest y) y) ++ transitionKindsFrom s p (l .transitions) 0 (l .«transition_count»)) (sym (record-is s ok p inside l e))
-        ∙ ap (λ (m : Layout). (kindsIn (lowest (pointAt (tableOf s) p)) p (binsAt s (m .bins) (m .ranges) (m .«bin_count»)) ++ autoPart (hasAutoAt s p (m .bins) (m .«bin_count») (m .transitions) (m .«transition_count»)) false (lowest (pointAt (tableOf s) p)) (pointAt (tableOf s) p)) ++ transitionKindsFrom s p (m .transitions) 0 (m .«transition_count»)) e)
+    part = subst (λ (x : Layout). PartOf s p (x .bins) (x .ranges) (x .«bin_count») (own .bins) (own .ranges) (own .count)) (sym e) o
 
-    -- the three parts are no more than 256 together
-    pub kind-room : length (kindsIn low p (binsAt s (l .bins) (l .ranges) (l .«bin_count»))) + length (autoPart has false low (pointRecord s (l .points + 11 * p))) + length (transitionKindsFrom s p (l .transitions) 0 (l .«transition_count»)) ≤ 256
-    unfolding kindsOf
-    kind-room =
-        let xs = kindsIn low p (binsAt s (l .bins) (l .ranges) (l .«bin_count»)) in
-        let ys = autoPart has false low (pointRecord s (l .points + 11 * p)) in
-        let zs = transitionKindsFrom s p (l .transitions) 0 (l .«transition_count») in
-        omega (arith, ap length kind-parts, length-append (xs ++ ys) zs, length-append xs ys, length-map (pointCounters (tableOf s) p) kindOf, few-here s ok p inside)
+    pub own-fits : fits (binsAt s (own .bins) (own .ranges) (own .count)) ≡ true
+    unfolding fits
+    own-fits = part-all s p binFits (l .bins) (l .ranges) (l .«bin_count») (own .bins) (own .ranges) (own .count) part (places-ready s ok p inside l e .3)
+
+    module _ (low : ℕ) (has : Bool) (el : low ≡ lowest (pointRecord s (l .points + 11 * p))) (eh : has ≡ hasAutoAt s p (own .bins) (own .count) (l .transitions) (l .«transition_count»)) where
+      auto-same : has ≡ hasAutoAt s p (recordsPlace s 1) (recordCount s 1) (recordsPlace s 3) (recordCount s 3)
+      unfolding layoutOf
+      auto-same =
+          eh ∙ part-auto s p (l .bins) (l .ranges) (l .«bin_count») (own .bins) (own .ranges) (own .count) part (l .transitions) (l .«transition_count»)
+          ∙ ap (λ (x : Layout). hasAutoAt s p (x .bins) (x .«bin_count») (x .transitions) (x .«transition_count»)) e
+
+      low-same : low ≡ lowest (pointAt (tableOf s) p)
+      low-same = el ∙ ap lowest (sym (record-is s ok p inside l e))
+
+      pub kind-parts : kindsOf (pointCounters (tableOf s) p)
+          ≡ (kindsIn low p (binsAt s (own .bins) (own .ranges) (own .count)) ++ autoPart has false low (pointRecord s (l .points + 11 * p))) ++ transitionKindsFrom s p (l .transitions) 0 (l .«transition_count»)
+      unfolding layoutOf
+      kind-parts =
+          raw-kinds
+          ∙ sym
+          (ap₂ _++_
+          (ap₂ _++_
+          (ap (λ (v : ℕ). kindsIn v p (binsAt s (own .bins) (own .ranges) (own .count))) low-same
+          ∙ part-kinds s (lowest (pointAt (tableOf s) p)) p (recordsPlace s 1) (recordsPlace s 2) (recordCount s 1) (own .bins) (own .ranges) (own .count) o)
+          (ap₂ (λ (b : Bool) (v : ℕ). autoPart b false v (pointRecord s (l .points + 11 * p))) auto-same low-same
+          ∙ ap (autoPart (hasAutoAt s p (recordsPlace s 1) (recordCount s 1) (recordsPlace s 3) (recordCount s 3)) false (lowest (pointAt (tableOf s) p))) (sym (record-is s ok p inside l e))))
+          (ap (λ (x : Layout). transitionKindsFrom s p (x .transitions) 0 (x .«transition_count»)) e))
+
+      -- the three parts are no more than 256 together
+      pub kind-room : length (kindsIn low p (binsAt s (own .bins) (own .ranges) (own .count))) + length (autoPart has false low (pointRecord s (l .points + 11 * p))) + length (transitionKindsFrom s p (l .transitions) 0 (l .«transition_count»)) ≤ 256
+      unfolding kindsOf
+      kind-room =
+          let xs = kindsIn low p (binsAt s (own .bins) (own .ranges) (own .count)) in
+          let ys = autoPart has false low (pointRecord s (l .points + 11 * p)) in
+          let zs = transitionKindsFrom s p (l .transitions) 0 (l .«transition_count») in
+          omega (arith, ap length kind-parts, length-append (xs ++ ys) zs, length-append xs ys, length-map (pointCounters (tableOf s) p) kindOf, few-here s ok p inside)
 
 -- three writes in a row
 pub all-written : (cur c d e : ℕ) (xs ys zs whole l l₁ l₂ l₃ : List ℕ) → whole ≡ (xs ++ ys) ++ zs → cur + length whole ≤ length l → c ≡ cur + length xs → l₁ ≡ put cur xs l → d ≡ c + length ys → l₂ ≡ put c ys l₁

@@ -5,7 +5,7 @@ use mathlib.Core.Path.{_≡_}
 use mathlib.Core.Bool.{true}
 use mathlib.Core.List.{List, [], _++_}
 use Rattle.model.specs.Table.{Table}
-use Rattle.model.specs.Counters.{valueCounters, autoCounters, transitionCounters, pointCounters}
+use Rattle.model.specs.Counters.{valueCounters, autoCounters, transitionCounters}
 use Rattle.model.specs.Format.{accepted, tableOf}
 use Rattle.model.specs.Register.{runStretches, inWidths}
 use Rattle.layout.specs.declared.Layout.{Layout}
@@ -19,10 +19,6 @@ valueHits t w p = hitFlags t w (runStretches []) (valueCounters t p 0 (t .valueB
 -- those of the transition bins, whose matched lengths are `lens`
 unfoldable pub transitionHits : Table → List ℕ → List ℕ → ℕ → List ℕ
 transitionHits t w lens p = hitFlags t w (runStretches lens) (transitionCounters p 0 (t .transitionBins))
-
--- all of them
-unfoldable pub pointHits : Table → List ℕ → List ℕ → ℕ → List ℕ
-pointHits t w lens p = hitFlags t w (runStretches lens) (pointCounters t p)
 
 -- the places of an accepted table, and a sample that refusal 13 lets pass
 pub record Sampled (s : List ℕ) (l : Layout) (w : List ℕ) : Type 0 where

@@ -2,6 +2,8 @@
 use arrays::put_same;
 use layout::Layout;
 use layout::layout_of;
+use spans::collects::Bins;
+use spans::part::own_part;
 use values::flags::put_cover_at;
 use values::given::SampledValue;
 use values::points::has_auto;
@@ -60,16 +62,16 @@ fn put_bin_kinds(
     put_same(kinds, cur, 1, plain_kind(kind))
 }
 
-// The value bins of point p, in a table with that layout.
-fn put_value_kinds(kinds: &mut [u8], cur: usize, t: &[u8], l: Layout, p: u8, low: u64) -> usize
-    requires { ⌜ (l .bins < 1000000000) × (l .ranges < 1000000000) × (l .«bin_count» ≤ 512) × (low < 2 ^ 60) × (fits (binsAt (now t) (l .bins) (l .ranges) (l .«bin_count»)) ≡ true) ⌝ }
-    requires { ⌜ cur + length (kindsIn low p (binsAt (now t) (l .bins) (l .ranges) (l .«bin_count»))) ≤ length (now kinds) ⌝ }
-    ensures { λ e. ⌜ (e ≡ cur + length (kindsIn low p (binsAt (now (t .entry)) (l .bins) (l .ranges) (l .«bin_count»)))) × (now (kinds .exit) ≡ put cur (kindsIn low p (binsAt (now (t .entry)) (l .bins) (l .ranges) (l .«bin_count»))) (now (kinds .entry))) ⌝ }
+// The value bins of point p, which are among those of `own`.
+fn put_value_kinds(kinds: &mut [u8], cur: usize, t: &[u8], own: Bins, p: u8, low: u64) -> usize
+    requires { ⌜ (own .bins < 1000000000) × (own .ranges < 1000000000) × (own .count ≤ 512) × (low < 2 ^ 60) × (fits (binsAt (now t) (own .bins) (own .ranges) (own .count)) ≡ true) ⌝ }
+    requires { ⌜ cur + length (kindsIn low p (binsAt (now t) (own .bins) (own .ranges) (own .count))) ≤ length (now kinds) ⌝ }
+    ensures { λ e. ⌜ (e ≡ cur + length (kindsIn low p (binsAt (now (t .entry)) (own .bins) (own .ranges) (own .count)))) × (now (kinds .exit) ≡ put cur (kindsIn low p (binsAt (now (t .entry)) (own .bins) (own .ranges) (own .count))) (now (kinds .entry))) ⌝ }
 {
-    let a = l.bins;
-    let n = l.bin_count;
+    let a = own.bins;
+    let n = own.count;
     let mut c = cur;
-    let mut at = l.ranges;
+    let mut at = own.ranges;
     let mut i = 0;
     while i < n {
         let here = a + 8 * i;
@@ -120,13 +122,12 @@ fn put_kinds(kinds: &mut [u8], cur: usize, t: &[u8], l: Layout, p: u8) -> usize
     ensures { λ r. ⌜ (r ≡ cur + length (pointCounters (tableOf (now (t .entry))) p)) × (now (kinds .exit) ≡ put cur (kindsOf (pointCounters (tableOf (now (t .entry))) p)) (now (kinds .entry))) ⌝ }
 {
     let point = l.points + 11 * (p as usize);
-    let a = l.bins;
-    let n = l.bin_count;
+    let own = own_part(t, p);
     let b = l.transitions;
     let k = l.transition_count;
     let low = lowest_at(t, point);
-    let has = has_auto(t, a, n, b, k, p);
-    let c = put_value_kinds(kinds, cur, t, l, p, low);
+    let has = has_auto(t, own.bins, own.count, b, k, p);
+    let c = put_value_kinds(kinds, cur, t, own, p, low);
     let d = put_autos(kinds, c, t, point, low, has, false);
     put_transition_kinds(kinds, d, t, p, b, k)
 }

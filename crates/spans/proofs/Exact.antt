@@ -3,7 +3,7 @@
 use mathlib.Core.Path.{_≡_, refl, sym, ap, _∙_}
 use mathlib.Core.Bool.{Bool, true, false, _&&_, cond}
 use mathlib.Core.List.{List, [], _∷_}
-use Prim.Native.Nat.{ℕ, _+_, _-_, _≤_, _<_}
+use Prim.Native.Nat.{ℕ, _+_, _-_, _≤_}
 use native.Mathlib.Omega.{arith}
 use lib.Dec.{leb, eqb}
 use lib.ListN.{length, getD}
@@ -28,7 +28,7 @@ use Rattle.model.proofs.RawValues.{length-bins}
 use Rattle.ranges.specs.Taken.{holding, takenBy, excludedAt}
 use Rattle.ranges.proofs.MemberLaws.{in-any}
 use Rattle.ranges.proofs.TakenLaws.{any-taken}
-use Rattle.spans.specs.Spans.{heldBy, Settled, Least}
+use Rattle.spans.specs.Spans.{heldBy, Settled}
 use Rattle.spans.specs.Collected.{fitsFrom, wordsFrom, Collectable}
 use Rattle.spans.proofs.Ends.{both}
 use Rattle.spans.proofs.CollectLaws.{words-held}
@@ -132,13 +132,3 @@ module _ (s : List ℕ) (ok : accepted s ≡ true) (p : ℕ) where
       let h = leb-true low v (and-left (leb low v) (leb v (highest (pointAt (tableOf s) p))) e) in
       settled .same (v - low) ∙ words-held low excludedIn v spans-fit h
       ∙ ap (λ (bs : List ValueBin). inRanges (rangesOf excludes p bs) v) (sym bins-are) ∙ sym (excluded-ranges (tableOf s) p v)
-
-  -- The least free number from x up is the least value from x up that the model does not exclude, unless it lies above the type.
-  module _ (ws : List ℕ) (settled : Settled (wordsFrom low excludedIn) ws) (x r : ℕ) (least : Least ws x r) where
-    pub value-free : inType (pointAt (tableOf s) p) (low + r) ≡ true → excludedValue (tableOf s) p (low + r) ≡ false
-    value-free e =
-        let z : low + r - low ≡ r = omega arith in
-        sym (spans-exact ws settled (low + r) e) ∙ ap (heldBy ws) z ∙ least .out
-
-    pub value-passed : (v : ℕ) → low + x ≤ v → v < low + r → inType (pointAt (tableOf s) p) v ≡ true → excludedValue (tableOf s) p v ≡ true
-    value-passed v h k e = sym (spans-exact ws settled v e) ∙ least .passed (v - low) (omega arith) (omega arith)

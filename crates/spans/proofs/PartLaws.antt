@@ -1,19 +1,22 @@
 -- Bins of other points do not matter to a point.
 -- Assumes nothing.
 use mathlib.Core.Path.{_≡_, refl, sym, ap, ap₂, _∙_, subst}
-use mathlib.Core.Bool.{Bool, true, false, _&&_, cond}
+use mathlib.Core.Bool.{Bool, true, false, not, _&&_, _||_, cond}
 use mathlib.Core.List.{List, [], _∷_, _++_}
 use Prim.Native.Nat.{ℕ, zero, suc, _+_, _-_, _*_, _≤_, _<_}
 use native.Mathlib.Omega.{arith}
-use lib.Dec.{eqb, ltb}
+use lib.Dec.{eqb, leb, ltb}
 use borrow.Author.Tests.{ltb-true, ltb-false, ne-eqb}
+use Rattle.model.specs.Lists.{all}
 use Rattle.model.specs.Table.{Kind, ValueBin, excludes}
 use Rattle.model.specs.Format.{byte, u16}
 use Rattle.model.specs.Ranges.{rangesOf}
 use Rattle.model.specs.Raw.{binAt, binsAt, recordsPlace, recordCount}
+use Rattle.model.proofs.Booleans.{and-left, and-right}
 use Rattle.layout.specs.Places.{layoutOf}
 use Rattle.layout.specs.declared.Layout.{Layout}
 use Rattle.ranges.specs.Taken.{excludedAt}
+use Rattle.values.specs.Points.{isOwn, someOwn, hasAutoAt}
 use Rattle.spans.specs.Part.{Other, OthersFrom, OthersTo, rangesPast, PartOf, OwnPart}
 
 -- ---- found
@@ -146,3 +149,58 @@ module _ (s : List ℕ) (p : ℕ) where
 
   pub excluded-part : (a r n b q m : ℕ) → PartOf s p a r n b q m → excludedAt s b q m p ≡ excludedAt s a r n p
   excluded-part a r n b q m o = sym (ranges-own excludes (binsAt s b q m)) ∙ ap (rangesOf excludes p) (own-part a r n b q m o) ∙ ranges-own excludes (binsAt s a r n)
+
+  -- whether one of them leaves the point without auto bins
+  some-skip : (k m a n : ℕ) → n ≡ k + m → OthersTo s p a k → someOwn s p true 8 a n ≡ someOwn s p true 8 (a + 8 * k) m
+  unfolding someOwn
+  some-skip zero m a n e h = ap₂ (λ (x y : ℕ). someOwn s p true 8 x y) (let z : a ≡ a + 8 * 0 = omega arith in z) (let z : n ≡ m = omega arith in z)
+  some-skip (suc k) m a zero e h = absurd (omega arith)
+  some-skip (suc k) m a (suc n) e h =
+      ap (λ (c : Bool). (c && (eqb (byte s (a + 1)) 0 || (true && leb 3 (byte s (a + 1))))) || someOwn s p true 8 (a + 8) n) (first-other s p a (h 0 (omega arith)))
+      ∙ some-skip k m (a + 8) n (omega arith) (λ j i. shift s p a j (h (suc j) (omega arith)))
+      ∙ ap (λ (x : ℕ). someOwn s p true 8 x m) (let z : a + 8 + 8 * k ≡ a + 8 * suc k = omega arith in z)
+
+  some-trim : (m n a : ℕ) → m ≤ n → OthersFrom s p a n m → someOwn s p true 8 a n ≡ someOwn s p true 8 a m
+  unfolding someOwn
+  some-trim zero zero a e h = refl
+  some-trim zero (suc n) a e h =
+      ap (λ (c : Bool). (c && (eqb (byte s (a + 1)) 0 || (true && leb 3 (byte s (a + 1))))) || someOwn s p true 8 (a + 8) n) (first-other s p a (h 0 (omega arith) (omega arith)))
+      ∙ some-trim zero n (a + 8) (omega arith) (λ j g i. shift s p a j (h (suc j) (omega arith) (omega arith)))
+  some-trim (suc m) zero a e h = absurd (omega arith)
+  some-trim (suc m) (suc n) a e h = ap (isOwn s p true a ||_) (some-trim m n (a + 8) (omega arith) (λ j g i. shift s p a j (h (suc j) (omega arith) (omega arith))))
+
+  pub part-some : (a r n b q m : ℕ) → PartOf s p a r n b q m → someOwn s p true 8 b m ≡ someOwn s p true 8 a n
+  part-some a r n b q m o =
+      let k = o .skipped in
+      ap (λ (x : ℕ). someOwn s p true 8 x m) (o .place)
+      ∙ sym
+      (some-skip k (n - k) a n (omega (arith, o .few)) (o .others)
+      ∙ some-trim m (n - k) (a + 8 * k) (omega (arith, o .few))
+      (λ j g i. ap (λ (x : ℕ). eqb (byte s x) p) (let z : a + 8 * k + 8 * j ≡ a + 8 * (k + j) = omega arith in z) ∙ o .others₁ (k + j) (omega arith) (omega arith)))
+
+  pub part-auto : (a r n b q m : ℕ) → PartOf s p a r n b q m → (t k : ℕ) → hasAutoAt s p b m t k ≡ hasAutoAt s p a n t k
+  part-auto a r n b q m o t k = ap (λ (c : Bool). not c && not (someOwn s p false 4 t k)) (part-some a r n b q m o)
+
+  -- what holds of each bin
+  all-skip : (f : ValueBin → Bool) (k m a r n : ℕ) → n ≡ k + m → all f (binsAt s a r n) ≡ true → all f (binsAt s (a + 8 * k) (rangesPast s a r k) m) ≡ true
+  unfolding all binsAt rangesPast
+  all-skip f zero m a r n e h = ap₂ (λ (x y : ℕ). all f (binsAt s x r y)) (let z : a + 8 * 0 ≡ a = omega arith in z) (let z : m ≡ n = omega arith in z) ∙ h
+  all-skip f (suc k) m a r zero e h = absurd (omega arith)
+  all-skip f (suc k) m a r (suc n) e h =
+      ap (λ (x : ℕ). all f (binsAt s x (rangesPast s (a + 8) (r + 17 * u16 s (a + 6)) k) m)) (let z : a + 8 * suc k ≡ a + 8 + 8 * k = omega arith in z)
+      ∙ all-skip f k m (a + 8) (r + 17 * u16 s (a + 6)) n (omega arith) (and-right (f (binAt s a r)) (all f (binsAt s (a + 8) (r + 17 * u16 s (a + 6)) n)) h)
+
+  all-trim : (f : ValueBin → Bool) (m n a r : ℕ) → m ≤ n → all f (binsAt s a r n) ≡ true → all f (binsAt s a r m) ≡ true
+  unfolding all binsAt
+  all-trim f zero n a r e h = refl
+  all-trim f (suc m) zero a r e h = absurd (omega arith)
+  all-trim f (suc m) (suc n) a r e h =
+      let here = f (binAt s a r) in
+      let rest = all f (binsAt s (a + 8) (r + 17 * u16 s (a + 6)) n) in
+      ap (_&& all f (binsAt s (a + 8) (r + 17 * u16 s (a + 6)) m)) (and-left here rest h) ∙ all-trim f m n (a + 8) (r + 17 * u16 s (a + 6)) (omega arith) (and-right here rest h)
+
+  pub part-all : (f : ValueBin → Bool) (a r n b q m : ℕ) → PartOf s p a r n b q m → all f (binsAt s a r n) ≡ true → all f (binsAt s b q m) ≡ true
+  part-all f a r n b q m o h =
+      let k = o .skipped in
+      ap₂ (λ (x y : ℕ). all f (binsAt s x y m)) (o .place) (o .ranges)
+      ∙ all-trim f m (n - k) (a + 8 * k) (rangesPast s a r k) (omega (arith, o .few)) (all-skip f k (n - k) a r n (omega (arith, o .few)) h)

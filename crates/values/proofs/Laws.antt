@@ -20,8 +20,6 @@ use Rattle.model.specs.Raw.{rows, rangesAt, binAt, binsAt}
 use Rattle.values.specs.Flags.{inSpan, placeIn, binsOf, setAll, markOne, fixedFlags, valueFlags, smallRange, coverFlags, Hit, hit, flagsBy, binFlags, flagsIn, binFits, fits}
 use Rattle.model.proofs.Lists.{none-left, one-left, length-row}
 use Rattle.model.proofs.Fields.{fixed-form}
-use Rattle.arrays.specs.Put.{put}
-use Rattle.arrays.proofs.PutLaws.{put-put}
 
 -- ---- fields
 
@@ -237,18 +235,6 @@ module _ (h : Hit) (p : ℕ) (s : List ℕ) (a : ℕ) where
   pub flags-end : (r n i : ℕ) → n ≤ i → flagsIn h p (binsAt s (a + 8 * i) r (n - i)) ≡ []
   unfolding flagsIn
   flags-end r n i q = ap (flagsIn h p) (bins-end s a r n i q)
-
-  -- what is left, after the bin has been written
-  pub write-turn : (r n i c e k : ℕ) (l l′ : List ℕ) → i < n → k ≡ u16 s (a + 8 * i + 6) → c + length (flagsIn h p (binsAt s (a + 8 * i) r (n - i))) ≤ length l
-      → e ≡ c + length (binFlags h p (binAt s (a + 8 * i) r)) → l′ ≡ put c (binFlags h p (binAt s (a + 8 * i) r)) l
-      → (e + length (flagsIn h p (binsAt s (a + 8 * (i + 1)) (r + 17 * k) (n - (i + 1)))) ≡ c + length (flagsIn h p (binsAt s (a + 8 * i) r (n - i))))
-      × (put e (flagsIn h p (binsAt s (a + 8 * (i + 1)) (r + 17 * k) (n - (i + 1)))) l′ ≡ put c (flagsIn h p (binsAt s (a + 8 * i) r (n - i))) l)
-  write-turn r n i c e k l l′ q ek fit ee el =
-      let xs = binFlags h p (binAt s (a + 8 * i) r) in
-      let ys = flagsIn h p (binsAt s (a + 8 * (i + 1)) (r + 17 * k) (n - (i + 1))) in
-      let whole : flagsIn h p (binsAt s (a + 8 * i) r (n - i)) ≡ xs ++ ys = flags-turn r n i q ∙ ap (λ (z : ℕ). xs ++ flagsIn h p (binsAt s (a + 8 * (i + 1)) (r + 17 * z) (n - (i + 1)))) (sym ek) in
-      let long : length (flagsIn h p (binsAt s (a + 8 * i) r (n - i))) ≡ length xs + length ys = ap length whole ∙ length-append xs ys in
-      (omega arith, ap₂ (λ (m : ℕ) (z : List ℕ). put m ys z) ee el ∙ put-put c xs ys l (omega arith) ∙ ap (λ (z : List ℕ). put c z l) (sym whole))
 
   pub bin-room : (r n i c : ℕ) (l : List ℕ) → i < n → c + length (flagsIn h p (binsAt s (a + 8 * i) r (n - i))) ≤ length l → c + length (binFlags h p (binAt s (a + 8 * i) r)) ≤ length l
   bin-room r n i c l q fit =

@@ -1,3 +1,4 @@
+use borrow.Author.Needs.{needs}
 use mathlib.Core.Path.{_≡_, refl, _∙_}
 use Prim.Native.Nat.{_-_, _≤_}
 use native.Mathlib.Omega.{arith}
@@ -10,18 +11,13 @@ use Rattle.origins.proofs.put_origins.Statement.{statement}
 use Rattle.origins.proofs.put_origins.Tie as tie
 
 abbrev Inv-loop : tie.InvT-loop
-Inv-loop origins₀ t n p₀ origins p = (p ≤ n) × (length origins ≡ length origins₀) × Filled origin (tableOf t) p origins
+Inv-loop origins₀ t l n p₀ origins p = (p ≤ n) × (length origins ≡ length origins₀) × Filled origin (tableOf t) p origins
 
 abbrev μ-loop : tie.MeasureT-loop
-μ-loop origins₀ t n p₀ origins p = n - p
+μ-loop origins₀ t l n p₀ origins p = n - p
 
-read2-requires : tie.Need-read2-requires Inv-loop μ-loop
-read2-requires c κs =
-    omega arith
-
-cast-n : tie.Need-cast-n Inv-loop μ-loop
-cast-n c =
-    omega arith
+layout-of-requires : tie.Need-layout-of-requires Inv-loop μ-loop
+layout-of-requires c κs = search needs
 
 loop-holds : tie.Need-loop-holds Inv-loop μ-loop
 loop-holds c =
@@ -33,9 +29,9 @@ put-origins-at-requires c κs =
     let q = c .before .before .before .before .before .before .pre in
     let s = a .t .now in
     let l = c .before .before .loop in
-    let n = c .before .before .before .read2 in
-    let z = points-read s (q .0) (n .result) (n .ensures) in
-    (q .0, omega (arith, z), omega (arith, l .inv .1, q .1))
+    let n = c .before .before .before .layout-of in
+    let z = points-read s (q .0) (n .result) (n .ensures .0) in
+    (q .0, n .ensures .0, n .ensures .1, omega (arith, z), omega (arith, l .inv .1, q .1))
 
 add-p : tie.Need-add-p Inv-loop μ-loop
 add-p c =
@@ -51,8 +47,8 @@ loop-again c =
     let q = c .before .before .before .before .before .before .before .before .before .pre in
     let s = a .t .now in
     let l = c .before .before .before .before .before .loop in
-    let n = c .before .before .before .before .before .before .read2 in
-    let z = points-read s (q .0) (n .result) (n .ensures) in
+    let n = c .before .before .before .before .before .before .layout-of in
+    let z = points-read s (q .0) (n .result) (n .ensures .0) in
     let w = c .before .before .put-origins-at in
     let t = tableOf s in
     (omega arith, w .kept .0 ∙ l .inv .1, filled-turn origin t (l .p) (λ p h. few-covers s (q .0) p (omega (arith, z))) (l .origins) (w .last .0) (omega (arith, z, l .inv .1, q .1)) (w .ensures) (l .inv .2))
@@ -68,8 +64,8 @@ returns c =
     let q = c .before .before .before .before .before .pre in
     let s = a .t .now in
     let l = c .before .loop in
-    let n = c .before .before .read2 in
-    let z = points-read s (q .0) (n .result) (n .ensures) in
+    let n = c .before .before .layout-of in
+    let z = points-read s (q .0) (n .result) (n .ensures .0) in
     ((λ p k h i. l .inv .2 p k (omega (arith, z)) i), l .inv .1)
 
 pub put-origins-spec : {M : Type 1} → statement M
@@ -78,8 +74,7 @@ put-origins-spec =
     (tie.spec
     Inv-loop
     μ-loop
-    read2-requires
-    cast-n
+    layout-of-requires
     loop-holds
     put-origins-at-requires
     add-p

@@ -11,21 +11,24 @@ use Rattle.origins.proofs.listed.put_listed.Statement.{statement}
 use Rattle.origins.proofs.listed.put_listed.Tie as tie
 
 abbrev Inv-loop : tie.InvT-loop
-Inv-loop out₀ at t p low n c₀ b₀ r₀ i₀ out c b r i =
+Inv-loop out₀ at t first p low n c₀ b₀ r₀ i₀ out c b r i =
     (i ≤ n) × (b ≤ b₀ + 8 * i) × (r ≤ r₀ + 1114095 * i)
-    × Written at (originsIn low p 0 (binsAt t b₀ r₀ n)) out₀ c out (originsIn low p i (binsAt t b r (n - i)))
+    × Written at (originsIn low p first (binsAt t b₀ r₀ n)) out₀ c out (originsIn low p (first + i) (binsAt t b r (n - i)))
 
 abbrev μ-loop : tie.MeasureT-loop
-μ-loop out₀ at t p low n c₀ b₀ r₀ i₀ out c b r i = n - i
+μ-loop out₀ at t first p low n c₀ b₀ r₀ i₀ out c b r i = n - i
 
 loop-holds : tie.Need-loop-holds Inv-loop μ-loop
 loop-holds c =
     let a = c .before .before .args in
     let s = a .t .now in
-    (omega arith, omega arith, omega arith, written-start (a .at) (originsIn (a .low) (a .p) 0 (binsAt s (a .l .bins) (a .l .ranges) (a .l .«bin_count»))) (originsIn (a .low) (a .p) 0 (binsAt s (a .l .bins) (a .l .ranges) (a .l .«bin_count» - 0))) (a .out .now) (origins-start s (a .low) (a .p) (a .l .bins) (a .l .ranges) (a .l .«bin_count»)))
+    (omega arith, omega arith, omega arith, written-start (a .at) (originsIn (a .low) (a .p) (a .first) (binsAt s (a .own .bins) (a .own .ranges) (a .own .count))) (originsIn (a .low) (a .p) (a .first + 0) (binsAt s (a .own .bins) (a .own .ranges) (a .own .count - 0))) (a .out .now) (origins-start s (a .low) (a .p) (a .first) (a .own .bins) (a .own .ranges) (a .own .count)))
 
 own-count-requires : tie.Need-own-count-requires Inv-loop μ-loop
 own-count-requires c κs = omega arith
+
+add-put-same-u16 : tie.Need-add-put-same-u16 Inv-loop μ-loop
+add-put-same-u16 c = omega arith
 
 cast-put-same-u16 : tie.Need-cast-put-same-u16 Inv-loop μ-loop
 cast-put-same-u16 c = omega arith
@@ -37,8 +40,8 @@ put-same-u16-requires c κs =
     let l = c .before .before .before .loop in
     let s = a .t .now in
     let m = c .before .own-count in
-    let room = written-room (a .at) (originsIn (a .low) (a .p) 0 (binsAt s (a .l .bins) (a .l .ranges) (a .l .«bin_count»))) (a .out .now) (l .c) (l .out) (originsIn (a .low) (a .p) (l .i) (binsAt s (l .b) (l .r) (a .l .«bin_count» - l .i))) (l .inv .3) (q .4) (replicate (m .result) (l .i)) (originsIn (a .low) (a .p) (l .i + 1) (binsAt s (l .b + 8) (l .r + 17 * u16 s (l .b + 6)) (a .l .«bin_count» - (l .i + 1)))) (origins-turn s (a .low) (a .p) (l .b) (l .r) (a .l .«bin_count») (l .i) (m .result) (u16 s (l .b + 6)) (omega arith) (m .ensures .0) refl) in
-    omega (arith, room, length-replicate (m .result) (l .i))
+    let room = written-room (a .at) (originsIn (a .low) (a .p) (a .first) (binsAt s (a .own .bins) (a .own .ranges) (a .own .count))) (a .out .now) (l .c) (l .out) (originsIn (a .low) (a .p) (a .first + l .i) (binsAt s (l .b) (l .r) (a .own .count - l .i))) (l .inv .3) (q .4) (replicate (m .result) (a .first + l .i)) (originsIn (a .low) (a .p) (a .first + (l .i + 1)) (binsAt s (l .b + 8) (l .r + 17 * u16 s (l .b + 6)) (a .own .count - (l .i + 1)))) (origins-turn s (a .low) (a .p) (a .first) (l .b) (l .r) (a .own .count) (l .i) (m .result) (u16 s (l .b + 6)) (omega arith) (m .ensures .0) refl) in
+    omega (arith, room, length-replicate (m .result) (a .first + l .i))
 
 add-read2 : tie.Need-add-read2 Inv-loop μ-loop
 add-read2 c = omega arith
@@ -76,8 +79,8 @@ loop-again c =
       omega arith,
       omega arith,
       omega arith,
-      written-turn (a .at) (originsIn (a .low) (a .p) 0 (binsAt s (a .l .bins) (a .l .ranges) (a .l .«bin_count»))) (a .out .now) (l .c) (l .out) (originsIn (a .low) (a .p) (l .i) (binsAt s (l .b) (l .r) (a .l .«bin_count» - l .i))) (l .inv .3) (q .4) (replicate (m .result) (l .i)) (originsIn (a .low) (a .p) (l .i + 1) (binsAt s (l .b + 8) (l .r + 17 * k .result) (a .l .«bin_count» - (l .i + 1)))) (origins-turn s (a .low) (a .p) (l .b) (l .r) (a .l .«bin_count») (l .i) (m .result) (k .result) (omega arith) (m .ensures .0) (k .ensures))
-          (w .result) (w .last .0) (w .ensures .0 ∙ ap (l .c +_) (sym (length-replicate (m .result) (l .i)))) (w .ensures .1),
+      written-turn (a .at) (originsIn (a .low) (a .p) (a .first) (binsAt s (a .own .bins) (a .own .ranges) (a .own .count))) (a .out .now) (l .c) (l .out) (originsIn (a .low) (a .p) (a .first + l .i) (binsAt s (l .b) (l .r) (a .own .count - l .i))) (l .inv .3) (q .4) (replicate (m .result) (a .first + l .i)) (originsIn (a .low) (a .p) (a .first + (l .i + 1)) (binsAt s (l .b + 8) (l .r + 17 * k .result) (a .own .count - (l .i + 1)))) (origins-turn s (a .low) (a .p) (a .first) (l .b) (l .r) (a .own .count) (l .i) (m .result) (k .result) (omega arith) (m .ensures .0) (k .ensures))
+          (w .result) (w .last .0) (w .ensures .0 ∙ ap (l .c +_) (sym (length-replicate (m .result) (a .first + l .i)))) (w .ensures .1),
     )
 
 same-length : tie.Need-same-length Inv-loop μ-loop
@@ -89,7 +92,7 @@ returns c =
     let q = c .before .before .before .before .pre in
     let l = c .before .loop in
     let s = a .t .now in
-    written-end (a .at) (originsIn (a .low) (a .p) 0 (binsAt s (a .l .bins) (a .l .ranges) (a .l .«bin_count»))) (a .out .now) (l .c) (l .out) (originsIn (a .low) (a .p) (l .i) (binsAt s (l .b) (l .r) (a .l .«bin_count» - l .i))) (l .inv .3) (origins-end s (a .low) (a .p) (l .b) (l .r) (a .l .«bin_count») (l .i) (omega arith))
+    written-end (a .at) (originsIn (a .low) (a .p) (a .first) (binsAt s (a .own .bins) (a .own .ranges) (a .own .count))) (a .out .now) (l .c) (l .out) (originsIn (a .low) (a .p) (a .first + l .i) (binsAt s (l .b) (l .r) (a .own .count - l .i))) (l .inv .3) (origins-end s (a .low) (a .p) (a .first) (l .b) (l .r) (a .own .count) (l .i) (omega arith))
 
 pub put-listed-spec : {M : Type 1} → statement M
 put-listed-spec =
@@ -99,6 +102,7 @@ put-listed-spec =
     μ-loop
     loop-holds
     own-count-requires
+    add-put-same-u16
     cast-put-same-u16
     put-same-u16-requires
     add-read2

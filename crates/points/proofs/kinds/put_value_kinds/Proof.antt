@@ -27,7 +27,7 @@ abbrev μ-loop : tie.MeasureT-loop
 loop-holds : tie.Need-loop-holds Inv-loop μ-loop
 loop-holds c =
     let a = c .before .before .args in
-    let z = sym (bins-start (a .t .now) (a .l .bins) (a .l .ranges) (a .l .«bin_count»)) in (
+    let z = sym (bins-start (a .t .now) (a .own .bins) (a .own .ranges) (a .own .count)) in (
       omega arith,
       omega arith,
       refl,
@@ -46,8 +46,8 @@ put-bin-kinds-requires : tie.Need-put-bin-kinds-requires Inv-loop μ-loop
 put-bin-kinds-requires c κs =
     let a = c .before .before .before .before .before .args in
     let l = c .before .before .loop in
-    let z = kinds-turn (a .low) (a .p) (a .t .now) (a .l .bins) (l .at) (a .l .«bin_count») (l .i) _ (omega arith) refl in
-    (omega arith, omega arith, c .before .before .before .before .before .pre .0 .3, fits-here (a .t .now) (a .l .bins) (l .at) (a .l .«bin_count») (l .i) (omega arith) (l .inv .3), omega (arith, simp length-append at (ap length z), l .inv .2, l .inv .4, c .before .before .before .before .before .pre .1))
+    let z = kinds-turn (a .low) (a .p) (a .t .now) (a .own .bins) (l .at) (a .own .count) (l .i) _ (omega arith) refl in
+    (omega arith, omega arith, c .before .before .before .before .before .pre .0 .3, fits-here (a .t .now) (a .own .bins) (l .at) (a .own .count) (l .i) (omega arith) (l .inv .3), omega (arith, simp length-append at (ap length z), l .inv .2, l .inv .4, c .before .before .before .before .before .pre .1))
 
 add-read2 : tie.Need-add-read2 Inv-loop μ-loop
 add-read2 c = omega arith
@@ -76,12 +76,12 @@ loop-again c =
     let l = c .before .before .before .before .before .before .loop in
     let q = c .before .before .before .put-bin-kinds in
     let k = c .read2 in
-    let z = kinds-turn (a .low) (a .p) (a .t .now) (a .l .bins) (l .at) (a .l .«bin_count») (l .i) (k .result) (omega arith) (k .ensures) in
+    let z = kinds-turn (a .low) (a .p) (a .t .now) (a .own .bins) (l .at) (a .own .count) (l .i) (k .result) (omega arith) (k .ensures) in
     let w = put-turn (l .c) (q .result) _ _ _ (l .kinds) (q .last .0) z (omega (arith, l .inv .2, l .inv .4, c .before .before .before .before .before .before .before .before .before .pre .1)) (q .ensures .0) (q .ensures .1) in (
       omega arith,
       omega arith,
       q .kept .0 ∙ l .inv .2,
-      fits-on (a .t .now) (a .l .bins) (l .at) (a .l .«bin_count») (l .i) (omega arith) (l .inv .3) (k .result) (k .ensures),
+      fits-on (a .t .now) (a .own .bins) (l .at) (a .own .count) (l .i) (omega arith) (l .inv .3) (k .result) (k .ensures),
       w .0 ∙ l .inv .4,
       w .1 ∙ l .inv .5,
     )
@@ -93,7 +93,7 @@ returns : tie.Need-returns Inv-loop μ-loop
 returns c =
     let a = c .before .before .before .before .args in
     let l = c .before .loop in
-    put-end (l .c) (a .cur) _ _ (l .kinds) (a .kinds .now) (kinds-end (a .low) (a .p) (a .t .now) (a .l .bins) (l .at) (a .l .«bin_count») (l .i) (omega arith)) (l .inv .4) (l .inv .5)
+    put-end (l .c) (a .cur) _ _ (l .kinds) (a .kinds .now) (kinds-end (a .low) (a .p) (a .t .now) (a .own .bins) (l .at) (a .own .count) (l .i) (omega arith)) (l .inv .4) (l .inv .5)
 
 pub put-value-kinds-spec : {M : Type 1} → statement M
 put-value-kinds-spec =
