@@ -13,20 +13,20 @@ run-length-requires c κs = search needs
 add-e : tie.Need-add-e
 add-e c = search needs
 
-mul-write-run : tie.Need-mul-write-run
-mul-write-run c = search needs
+mul-write-run-by : tie.Need-mul-write-run-by
+mul-write-run-by c = search needs
 
-sub-write-run : tie.Need-sub-write-run
-sub-write-run c = search needs
+sub-write-run-by : tie.Need-sub-write-run-by
+sub-write-run-by c = search needs
 
-part-write-run-start : tie.Need-part-write-run-start
-part-write-run-start c = search needs
+part-write-run-by-start : tie.Need-part-write-run-by-start
+part-write-run-by-start c = search needs
 
-part-write-run-end : tie.Need-part-write-run-end
-part-write-run-end c = search needs
+part-write-run-by-end : tie.Need-part-write-run-by-end
+part-write-run-by-end c = search needs
 
-write-run-requires : tie.Need-write-run-requires
-write-run-requires c κs = search needs
+write-run-by-requires : tie.Need-write-run-by-requires
+write-run-by-requires c κs = search needs
 
 same-length : tie.Need-same-length
 same-length c = search needs
@@ -35,7 +35,7 @@ returns : tie.Need-returns
 returns c =
     let start = c .before .before .before .before .before .before in
     let n = c .before .before .before .before .run-length in
-    let written = c .before .before .write-run in (
+    let written = c .before .before .write-run-by in (
       ap (start .args .a +_) (n .ensures),
       λ ss r d.
           part-stored ss r (start .args .a) (n .result) (start .args .register .now) (written .last .0)
@@ -50,10 +50,10 @@ advance-spec =
     (tie.spec
     run-length-requires
     add-e
-    mul-write-run
-    sub-write-run
-    part-write-run-start
-    part-write-run-end
-    write-run-requires
+    mul-write-run-by
+    sub-write-run-by
+    part-write-run-by-start
+    part-write-run-by-end
+    write-run-by-requires
     same-length
     returns)

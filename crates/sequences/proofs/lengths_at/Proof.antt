@@ -17,20 +17,20 @@ run-length-requires c κs = search needs
 add-e : tie.Need-add-e
 add-e c = search needs
 
-mul-matched-lengths : tie.Need-mul-matched-lengths
-mul-matched-lengths c = search needs
+mul-matched-lengths-by : tie.Need-mul-matched-lengths-by
+mul-matched-lengths-by c = search needs
 
-sub-matched-lengths : tie.Need-sub-matched-lengths
-sub-matched-lengths c = search needs
+sub-matched-lengths-by : tie.Need-sub-matched-lengths-by
+sub-matched-lengths-by c = search needs
 
-part-matched-lengths-start : tie.Need-part-matched-lengths-start
-part-matched-lengths-start c = search needs
+part-matched-lengths-by-start : tie.Need-part-matched-lengths-by-start
+part-matched-lengths-by-start c = search needs
 
-part-matched-lengths-end : tie.Need-part-matched-lengths-end
-part-matched-lengths-end c = search needs
+part-matched-lengths-by-end : tie.Need-part-matched-lengths-by-end
+part-matched-lengths-by-end c = search needs
 
-matched-lengths-requires : tie.Need-matched-lengths-requires
-matched-lengths-requires c κs = search needs
+matched-lengths-by-requires : tie.Need-matched-lengths-by-requires
+matched-lengths-by-requires c κs = search needs
 
 own : (ss : List Step) (a n : ℕ) (w : List ℕ) → n ≡ runLength ss → matchedLengths ss (take ((a + n) - a) (drop a w)) ≡ matchedLengths ss (take (runLength ss) (drop a w))
 own ss a n w e =
@@ -41,7 +41,7 @@ returns : tie.Need-returns
 returns c = λ ss h.
     let a = c .before .before .before .before .args in
     let n = c .before .before .run-length in
-    c .matched-lengths .ensures ss h ∙ own ss (a .a) (n .result) (a .register .now) (n .ensures ∙ words-shaped (a .steps) ss h)
+    c .matched-lengths-by .ensures ss h ∙ own ss (a .a) (n .result) (a .register .now) (n .ensures ∙ words-shaped (a .steps) ss h)
 
 pub lengths-at-spec : {M : Type 1} → statement M
 lengths-at-spec =
@@ -49,9 +49,9 @@ lengths-at-spec =
     (tie.spec
     run-length-requires
     add-e
-    mul-matched-lengths
-    sub-matched-lengths
-    part-matched-lengths-start
-    part-matched-lengths-end
-    matched-lengths-requires
+    mul-matched-lengths-by
+    sub-matched-lengths-by
+    part-matched-lengths-by-start
+    part-matched-lengths-by-end
+    matched-lengths-by-requires
     returns)
