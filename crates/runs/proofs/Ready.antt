@@ -9,7 +9,7 @@ use lib.Dec.{leb}
 use lib.ListN.{length, getD, take, drop, length-map, length-drop, take-append-drop, List·getD-map}
 use lib.Seq.{length-take-le}
 use borrow.Author.Tests.{ltb-true, lt-ltb, leb-true, le-leb}
-use Rattle.model.specs.Lists.{all, sumOf, within}
+use Rattle.model.specs.Lists.{all, sumOf, concatOf, within}
 use Rattle.model.specs.Table.{TransitionBin, Table, noTransitionBin}
 use Rattle.model.specs.Counters.{transitionBinAt}
 use Rattle.model.specs.Sampling.{runLength}
@@ -31,6 +31,7 @@ use Rattle.layout.specs.Places.{layoutOf}
 use Rattle.layout.specs.declared.Layout.{Layout as Places}
 use Rattle.sequences.proofs.Sequences.{allLengths-front}
 use Rattle.runs.specs.Runs.{binWords, allRuns, sequenceFits, binFits}
+use Rattle.runs.specs.Rows.{binRow, sequenceRows}
 use Rattle.runs.proofs.Exact.{code-read, runs-exact, runs-own}
 
 length-transitions : (s : List ℕ) (b q p r n : ℕ) → length (transitionsAt s b q p r n) ≡ n
@@ -45,7 +46,7 @@ module _ (s : List ℕ) (e : accepted s ≡ true) where
   read : decode s ≡ decoded (tableOf s)
   read = accepted-decodes s e
 
-  laid : Layout s (tableOf s) (length s)
+  pub laid : Layout s (tableOf s) (length s)
   laid = acceptance s (tableOf s) read .layout
 
   pub ok : WellFormed (tableOf s)
@@ -89,9 +90,16 @@ module _ (s : List ℕ) (e : accepted s ≡ true) where
         ap (λ (x : Places). transitionsAt s (x .transitions) (x .sequences) (x .steps) (x .«step_ranges») (x .«transition_count»)) el
         ∙ sym (ap (λ (u : Table). u .transitionBins) (raw-exact s (tableOf s) read))
 
+    -- how many they are, and their rows
+    pub bins-counted : l .«transition_count» ≡ length (tableOf s .transitionBins)
+    bins-counted = sym (length-transitions s (l .transitions) (l .sequences) (l .steps) (l .«step_ranges») (l .«transition_count»)) ∙ ap length bins-laid
+
+    pub rows-laid : concatOf binRow (transitionsAt s (l .transitions) (l .sequences) (l .steps) (l .«step_ranges») (l .«transition_count»)) ≡ sequenceRows (tableOf s)
+    unfolding sequenceRows
+    rows-laid = ap (concatOf binRow) bins-laid
+
     pub few-bins : l .«transition_count» ≤ 64
-    few-bins =
-        omega (arith, length-transitions s (l .transitions) (l .sequences) (l .steps) (l .«step_ranges») (l .«transition_count»), ap length bins-laid, transitions-access s (tableOf s) (length s) laid .0 .high)
+    few-bins = omega (arith, bins-counted, transitions-access s (tableOf s) (length s) laid .0 .high)
 
     pub bins-fit : all binFits (transitionsAt s (l .transitions) (l .sequences) (l .steps) (l .«step_ranges») (l .«transition_count»)) ≡ true
     bins-fit = ap (all binFits) bins-laid ∙ all-fit
