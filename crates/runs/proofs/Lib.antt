@@ -6,3 +6,6 @@ pub mod Ready
 pub mod RowLaws
 pub mod Walks
 pub mod RowSizes
+pub mod Admitted
+pub mod Standing
+pub mod Taking

@@ -4,9 +4,8 @@ use mathlib.Core.Path.{_≡_, refl, sym, ap, ap₂, _∙_}
 use mathlib.Core.Bool.{Bool, cond}
 use mathlib.Core.List.{List, [], _∷_, _++_, append-assoc}
 use Prim.Native.Nat.{ℕ, zero, suc, _+_, _-_, _*_, _^_, _≤_, _<_}
-use native.Mathlib.Numerals.{add-one}
 use native.Mathlib.Omega.{arith}
-use lib.ListN.{length, set, take, drop, length-set, length-append, length-take, length-drop}
+use lib.ListN.{length, set, take, drop, length-set, length-append}
 use lib.Seq.{take-append-le, take-take, drop-at, length-take-le}
 use borrow.Author.Tests.{eq-eqb, ne-eqb}
 use Rattle.model.specs.Lists.{sumOf, concatOf}
@@ -14,7 +13,7 @@ use Rattle.model.specs.Table.{Range, span, pattern, Step}
 use Rattle.model.specs.Values.{fieldValue}
 use Rattle.model.specs.Sampling.{runLength}
 use Rattle.model.specs.Format.{byte, u64, rangeRecord}
-use Rattle.model.specs.Raw.{rows, rangesAt, rangeTotal, stepAt, stepsAt}
+use Rattle.model.specs.Raw.{rows, rangesAt, rangeTotal, stepsAt}
 use Rattle.model.proofs.AccessTransitions.{rangesIn}
 use Rattle.model.proofs.Lists.{one-left, none-left}
 use Rattle.model.proofs.RawLaws.{rows-turn, rows-start, rows-end, length-rows}
@@ -38,7 +37,7 @@ put-three at a b c l h =
     let l₂ = set (set l at a) (at + 1) b in
     sym (put-nil (at + 2 + 1) (set l₂ (at + 2) c))
     ∙ put-cons (at + 2) c [] l₂ (simp length-set (omega arith))
-    ∙ ap₂ (λ (i : ℕ) (x : List ℕ). put i (c ∷ []) x) (let z : at + 2 ≡ at + 2 = omega arith in z) (put-two at a b l (omega arith))
+    ∙ ap (put (at + 2) (c ∷ [])) (put-two at a b l (omega arith))
     ∙ put-next at 2 (a ∷ b ∷ []) (c ∷ []) l refl (omega arith)
 
 pub put-four : (at a b c d : ℕ) (l : List ℕ) → at + 4 ≤ length l → set (set (set (set l at a) (at + 1) b) (at + 2) c) (at + 3) d ≡ put at (a ∷ b ∷ c ∷ d ∷ []) l

@@ -1,6 +1,6 @@
 -- How many words the rows of a table's sequences have.
 -- Assumes nothing.
-use mathlib.Core.Path.{_≡_, refl, ap, _∙_}
+use mathlib.Core.Path.{_≡_, refl}
 use mathlib.Core.Bool.{true}
 use mathlib.Core.List.{List, [], _∷_}
 use Prim.Native.Nat.{ℕ, _+_, _*_, _≤_}
@@ -14,7 +14,7 @@ use Rattle.runs.specs.Rows.{sequenceRow, binRow, sequenceRows}
 use Rattle.runs.proofs.RowLaws.{length-row}
 use Rattle.runs.proofs.Ready.{laid}
 
-length-rows : (sss : List (List Step)) → length (concatOf sequenceRow sss) ≡ 3 * length sss + 2 * sumOf length sss + 4 * sumOf rangesIn sss
+pub length-rows : (sss : List (List Step)) → length (concatOf sequenceRow sss) ≡ 3 * length sss + 2 * sumOf length sss + 4 * sumOf rangesIn sss
 unfolding concatOf sumOf
 length-rows [] = refl
 length-rows (ss ∷ sss) = omega (arith, length-append (sequenceRow ss) (concatOf sequenceRow sss), length-row ss, length-rows sss)

@@ -4,21 +4,27 @@
 -- Assumes nothing.
 use Prim.Native.Nat.{ℕ, zero, suc, _+_, _*_, _^_, _≤_}
 use mathlib.Core.Path.{_≡_}
+use mathlib.Core.Bool.{cond}
 use mathlib.Core.List.{List, [], _∷_, _++_}
-use lib.ListN.{length, take, drop}
+use lib.Dec.{eqb}
+use lib.ListN.{length, getD, take, drop}
 use Rattle.model.specs.Lists.{concatOf}
 use Rattle.model.specs.Table.{Range, span, pattern, Step, TransitionBin, Table}
 use Rattle.model.specs.Sampling.{runLength}
 use Rattle.model.specs.Format.{byte}
 use Rattle.model.specs.Raw.{stepTotal, rangeTotal}
 use Rattle.model.proofs.AccessTransitions.{rangesIn}
-use Rattle.sequences.specs.Shapes.{shapeOf}
+use Rattle.sequences.specs.Shapes.{shapeOf, wordsOf, Fits}
 
 -- ---- rows
 
 abbrev pub rangeWords : ℕ → Range → List ℕ
 rangeWords bit (span lo hi) = bit ∷ 0 ∷ lo ∷ hi ∷ []
 rangeWords bit (pattern bits mask) = bit ∷ 1 ∷ bits ∷ mask ∷ []
+
+-- the range of its last three words
+abbrev pub rangeOf : ℕ → ℕ → ℕ → Range
+rangeOf kind a b = cond (eqb kind 0) (span a b) (pattern a b)
 
 -- the ranges of some steps, the first of which has bit i
 unfoldable pub stepRanges : ℕ → List Step → List ℕ
@@ -42,6 +48,12 @@ Stands w at xs = (take (length xs) (drop at w) ≡ xs) × (at + length xs ≤ le
 
 unfoldable pub SequencesAt : Table → List ℕ → ℕ → Type 0
 SequencesAt t plan at = Stands plan at (sequenceRows t)
+
+-- what a walk asks of the row at a place: it lies in w, and its shape has that many run words and no more than a run has room for
+pub record RowFits (w : List ℕ) (at : ℕ) : Type 0 where
+  pub end : at + 3 + 2 * getD w at 0 + 4 * getD w (at + 2) 0 ≤ length w
+  pub shape : Fits (take (2 * getD w at 0) (drop (at + 3) w))
+  pub words : getD w (at + 1) 0 ≡ wordsOf (take (2 * getD w at 0) (drop (at + 3) w))
 
 -- ---- from the table's bytes: n steps from p on
 

@@ -27,10 +27,14 @@ binRuns r (ss ∷ sss) runs = nextRun ss (take (runLength ss) runs) r ++ binRuns
 abbrev pub binWords : TransitionBin → ℕ
 binWords b = sumOf runLength (b .sequences)
 
--- the next runs of all bins; each point's code stands at its number
+-- those of a bin; each point's code stands at its number
+abbrev pub nextBin : List ℕ → TransitionBin → List ℕ → List ℕ
+nextBin codes b runs = binRuns (readingFrom (getD codes (b .point) 0)) (b .sequences) runs
+
+-- the next runs of all bins
 unfoldable pub allRuns : List ℕ → List TransitionBin → List ℕ → List ℕ
 allRuns codes [] runs = []
-allRuns codes (b ∷ bs) runs = binRuns (readingFrom (getD codes (b .point) 0)) (b .sequences) runs ++ allRuns codes bs (drop (binWords b) runs)
+allRuns codes (b ∷ bs) runs = nextBin codes b runs ++ allRuns codes bs (drop (binWords b) runs)
 
 -- ---- what an accepted table grants
 

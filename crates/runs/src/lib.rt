@@ -3,3 +3,4 @@ pub mod advance;
 pub mod lengths;
 pub mod rows;
 pub mod steps;
+pub mod take;

@@ -1,6 +1,9 @@
 -- `rows::put_bin` meets its contract. Assumes nothing.
 use mathlib.Core.Path.{refl, _∙_}
 use lib.ListN.{length-set}
+use Rattle.model.specs.Lists.{concatOf}
+use Rattle.model.specs.Raw.{sequencesAt}
+use Rattle.runs.specs.Rows.{sequenceRow}
 use Rattle.runs.proofs.RowLaws.{bin-written}
 use borrow.Author.Needs.{needs}
 use native.Mathlib.Omega.{arith}
@@ -37,7 +40,7 @@ returns : tie.Need-returns
 returns c =
     let a = c .before .before .before .before .before .before .args in
     let w = c .before .before .put-rows in
-    (w .ensures .0, (w .ensures .1 .0, bin-written (a .place .at) (a .point) (a .n) _ (a .plan .now) (w .last .0) (omega (arith, c .before .before .before .before .before .before .pre .1)) (w .ensures .1 .1)))
+    (w .ensures .0, (w .ensures .1 .0, bin-written (a .place .at) (a .point) (a .n) (concatOf sequenceRow (sequencesAt (a .t .now) (a .q) (a .place .steps) (a .place .ranges) (a .n))) (a .plan .now) (w .last .0) (omega (arith, c .before .before .before .before .before .before .pre .1)) (w .ensures .1 .1)))
 
 pub put-bin-spec : {M : Type 1} → statement M
 put-bin-spec =

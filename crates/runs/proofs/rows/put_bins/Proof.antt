@@ -1,7 +1,6 @@
 -- `rows::put_bins` meets its contract: the bins that are left, written to the present plan, give the whole. Assumes nothing.
-use mathlib.Core.Path.{_≡_}
 use mathlib.Core.List.{_∷_}
-use Prim.Native.Nat.{_+_, _-_, _*_, _≤_, _<_}
+use Prim.Native.Nat.{_+_, _-_, _*_, _<_}
 use lib.ListN.{length}
 use Rattle.model.specs.Lists.{concatOf}
 use Rattle.model.specs.Raw.{sequencesAt, transitionsAt}

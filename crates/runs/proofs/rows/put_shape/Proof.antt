@@ -2,7 +2,7 @@
 use mathlib.Core.Path.{_≡_, subst}
 use mathlib.Core.List.{[], _∷_}
 use Prim.Native.Nat.{ℕ, _+_, _-_, _*_, _≤_, _<_}
-use lib.ListN.{length, set, length-set}
+use lib.ListN.{set, length-set}
 use Rattle.arrays.proofs.Written.{Written, written-start, written-end, written-turn}
 use Rattle.runs.specs.Rows.{shapeAt, mostsAt}
 use Rattle.runs.proofs.RowLaws.{put-two, shape-start, shape-turn, shape-none, mosts-start, mosts-turn, mosts-end, length-shapeAt}

@@ -1,7 +1,6 @@
 -- `rows::put_step_ranges` meets its contract: the steps that are left, written to the present plan, give the whole. Assumes nothing.
-use mathlib.Core.Path.{_≡_, subst, _∙_}
+use mathlib.Core.Path.{_≡_, subst}
 use Prim.Native.Nat.{ℕ, _+_, _-_, _*_, _^_, _≤_, _<_}
-use lib.ListN.{length}
 use Rattle.model.specs.Lists.{concatOf}
 use Rattle.model.specs.Raw.{rangesAt, rangeTotal, stepsAt}
 use Rattle.ranges.specs.Types.{powerOf}
