@@ -1,6 +1,6 @@
--- the code's words are the model's
+-- a step's words are the model's
 pub mod NextSteps
--- the same of a shape and the admitted steps
+-- so are those of a shape and the admitted steps
 pub mod Shapes
 -- what a turn of each loop does
 pub mod Turns

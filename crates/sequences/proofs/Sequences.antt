@@ -2,43 +2,22 @@
 -- The loop's place a is where the words of the sequences that are left begin.
 -- Assumes nothing.
 use mathlib.Core.Path.{_≡_, refl, ap, ap₂, sym, _∙_}
-use mathlib.Core.Bool.{Bool, true, false}
+use mathlib.Core.Bool.{true, false}
 use mathlib.Core.List.{List, [], _∷_, _++_, map, append-assoc}
 use Prim.Native.Nat.{ℕ, _+_, _≤_, _<_}
 use native.Mathlib.Omega.{arith}
 use lib.Bits.{bitOr, or-zero-r}
-use lib.ListN.{length, take, drop, set, length-append, length-drop, length-map}
-use lib.Seq.{drop-drop, take-at, take-append-le, drop-append-le, length-take-le}
+use lib.ListN.{length, take, drop, set, length-append, length-drop}
+use lib.Seq.{drop-drop, take-append-le, drop-append-le, length-take-le}
 use Rattle.model.specs.Lists.{sumOf}
 use Rattle.model.specs.Table.{Step, TransitionBin, Table}
-use Rattle.model.specs.Sampling.{Reading, skipped, unknown, known, isSkipped, inStep, reading, runLength, nextSteps, nextRun, matchedLengths}
+use Rattle.model.specs.Sampling.{Reading, skipped, unknown, known, isSkipped, reading, runLength, nextSteps, nextRun, matchedLengths}
 use Rattle.model.specs.Register.{Sequence, nextRuns, binLengths, allLengths}
 use Rattle.model.proofs.RunBits.{or-assoc}
 use Rattle.model.proofs.Lists.{length-part}
-use Rattle.sequences.specs.declared.Steps.{Steps}
-use Rattle.sequences.specs.Described.{Shaped, Describes}
 use Rattle.arrays.specs.Put.{put}
-use Rattle.arrays.proofs.PutLaws.{put-nil, put-cons, put-zero, put-same}
+use Rattle.arrays.proofs.PutLaws.{put-nil, put-cons, put-same}
 use Rattle.sequences.proofs.NextSteps.{length-nextSteps}
-
--- ---- arrays that were filled
-
-front : {A : Type 0} (xs l : List A) (n : ℕ) → n ≡ length xs → take n (put 0 xs l) ≡ xs
-front xs l n e = ap (take n) (put-zero xs l) ∙ take-at xs (drop (length xs) l) n (sym e)
-
-pub shaped-filled : (steps : Steps) (ss : List Step) (ls ms : List ℕ) → steps .count ≡ length ss
-    → steps .least ≡ put 0 (map (λ s. s .least) ss) ls → steps .most ≡ put 0 (map (λ s. s .most) ss) ms → Shaped steps ss
-shaped-filled steps ss ls ms e l m =
-    record {
-      counted = e;
-      leasts = ap (take (steps .count)) l ∙ front _ ls (steps .count) (e ∙ sym (length-map ss (λ s. s .least)));
-      mosts = ap (take (steps .count)) m ∙ front _ ms (steps .count) (e ∙ sym (length-map ss (λ s. s .most)));
-    }
-
-pub described-filled : (steps : Steps) (ss : List Step) (r : Reading) (bs : List Bool) → Shaped steps ss
-    → steps .inside ≡ put 0 (map (λ s. inStep s r) ss) bs → Describes steps ss r
-described-filled steps ss r bs h b =
-    record { shape = h; insides = ap (take (steps .count)) b ∙ front _ bs (steps .count) (h .counted ∙ sym (length-map ss (λ s. inStep s r))) }
 
 -- ---- one sequence's next run
 
@@ -57,7 +36,7 @@ length-nextRun ss run skipped e = e
 length-nextRun ss run unknown e = length-nextSteps ss run 1 unknown (omega arith)
 length-nextRun ss run (known v) e = length-nextSteps ss run 1 (known v) (omega arith)
 
--- what `advance` wrote is the next run
+-- a sequence's words that were lent came back as the next run
 pub advance-run : (ss : List Step) (r : Reading) (a : ℕ) (w w′ : List ℕ) → a + runLength ss ≤ length w → isSkipped r ≡ false
     → w′ ≡ take a w ++ nextSteps ss (take (runLength ss) (drop a w)) 1 r ++ drop (a + runLength ss) w
     → w′ ≡ put a (nextRun ss (take (runLength ss) (drop a w)) r) w

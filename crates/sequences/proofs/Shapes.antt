@@ -6,17 +6,17 @@ use mathlib.Core.List.{List, [], _∷_, _++_, map}
 use Prim.Native.Nat.{ℕ, zero, suc, _+_, _*_, _-_, _/_, _%_, _≤_, _<_}
 use native.Mathlib.Omega.{arith}
 use lib.Dec.{eqb}
-use lib.ListN.{length, take, drop, getD, replicate, length-take, length-drop, drop-of-length-le, replicate-append-replicate}
+use lib.ListN.{length, take, drop, getD, replicate, length-take, length-drop, replicate-append-replicate}
 use lib.Seq.{drop-drop}
 use Rattle.model.specs.Lists.{asBit, sumOf}
 use Rattle.model.specs.Table.{Step}
 use Rattle.model.specs.Sampling.{Reading, inStep, runLength, longer, complete, nextSteps, matchedLengths}
-use Rattle.model.proofs.Lists.{head-tail, length-part, drop-replicate}
+use Rattle.model.proofs.Lists.{drop-replicate}
 use Rattle.sequences.specs.Shapes.{shapeOf, admittedBits, wordsOf, Fits}
 use Rattle.sequences.specs.Words.{stepWords, completeFrom, shapeWords}
 use Rattle.arrays.specs.Put.{put}
-use Rattle.arrays.proofs.PutLaws.{put-nil, put-zero, put-next}
-use Rattle.sequences.proofs.NextSteps.{step-words, length-stepWords, length-nextSteps, nextSteps-own}
+use Rattle.arrays.proofs.PutLaws.{put-zero}
+use Rattle.sequences.proofs.NextSteps.{step-words, length-nextSteps, nextSteps-own}
 
 -- ---- shapes
 
@@ -60,37 +60,6 @@ shape-next (s ∷ ss) enter ws r h =
     ap₂ _++_
     (ap (λ (b : Bool). stepWords b enter (take m ws)) (first-bit (inStep s r) (admittedBits ss r)) ∙ step-words (inStep s r) enter m ws (omega arith))
     (ap (λ (n : ℕ). shapeWords (shapeOf ss) n enter′ (drop m ws)) (other-bits (inStep s r) (admittedBits ss r)) ∙ shape-next ss enter′ (drop m ws) r k)
-
--- ---- next: a turn takes one step's two numbers
-
-two-left : (shape : List ℕ) (s : ℕ) → s + 1 < length shape → drop s shape ≡ getD shape s 0 ∷ getD shape (s + 1) 0 ∷ drop (s + 2) shape
-two-left shape s h =
-    let e : (s + 1) + 1 ≡ s + 2 = omega arith in
-    head-tail shape s 0 (omega arith) ∙ ap (getD shape s 0 ∷_) (head-tail shape (s + 1) 0 h ∙ ap (λ (n : ℕ). getD shape (s + 1) 0 ∷ drop n shape) e)
-
-pub mosts-turn : (shape : List ℕ) (s : ℕ) → s + 1 < length shape → wordsOf (drop s shape) ≡ getD shape (s + 1) 0 + wordsOf (drop (s + 2) shape)
-unfolding wordsOf
-mosts-turn shape s h = rw (two-left shape s h)
-
-pub shape-turn : (shape : List ℕ) (s at left enter enter′ : ℕ) (old words words′ : List ℕ)
-    → s + 1 < length shape → at + getD shape (s + 1) 0 ≤ length old → length words ≡ length old
-    → words′ ≡ put at (stepWords (eqb (left % 2) 1) enter (take (getD shape (s + 1) 0) (drop at old))) words
-    → enter′ ≡ longer (completeFrom (getD shape s 0) (take (getD shape (s + 1) 0) (drop at old)))
-    → put (at + getD shape (s + 1) 0) (shapeWords (drop (s + 2) shape) (left / 2) enter′ (drop (at + getD shape (s + 1) 0) old)) words′
-    ≡ put at (shapeWords (drop s shape) left enter (drop at old)) words
-unfolding shapeWords
-shape-turn shape s at left enter enter′ old words words′ h ho hw e₁ e₂ =
-    let m = getD shape (s + 1) 0 in
-    let xs = stepWords (eqb (left % 2) 1) enter (take m (drop at old)) in
-    let len : length xs ≡ m = length-stepWords _ _ _ ∙ length-part old at m ho in
-    rw (two-left shape s h, e₁, e₂, ← drop-drop m at old)
-    (put-next at m xs _ words len (omega arith))
-
-pub shape-end : (shape : List ℕ) (s at left enter : ℕ) (ws words : List ℕ) → length shape ≤ s → put at (shapeWords (drop s shape) left enter ws) words ≡ words
-unfolding shapeWords
-shape-end shape s at left enter ws words h =
-    let z : drop s shape ≡ [] = drop-of-length-le shape h in
-    rw z (put-nil at words)
 
 -- the whole run
 pub run-shape : (shape : List ℕ) (admitted : ℕ) (ss : List Step) (r : Reading) (ws : List ℕ) → Fits shape → length ws ≡ 32

@@ -8,7 +8,8 @@ use Rattle.model.specs.Sampling.{longer}
 use Rattle.sequences.specs.Shapes.{wordsOf}
 use Rattle.sequences.specs.Words.{shapeWords}
 use Rattle.arrays.specs.Put.{put}
-use Rattle.sequences.proofs.Shapes.{mosts-turn, shape-turn, shape-end, run-shape}
+use Rattle.sequences.proofs.Shapes.{run-shape}
+use Rattle.sequences.proofs.Turns.{mosts-turn, shape-turn, shape-end}
 use Rattle.sequences.proofs.Run.next.Statement.{statement}
 use Rattle.sequences.proofs.Run.next.Tie as tie
 
