@@ -1,5 +1,4 @@
 pub mod Codes
-pub mod Turns
 pub mod Written
 pub mod Exact
 pub mod Ready

@@ -6,11 +6,10 @@ use mathlib.Core.List.{List, []}
 use Prim.Native.Nat.{ℕ, zero, suc, _+_, _≤_, _<_}
 use native.Mathlib.Omega.{arith}
 use lib.Dec.{leb}
-use lib.ListN.{length, getD, take, drop, length-map, length-drop, take-append-drop, List·getD-map}
-use lib.Seq.{length-take-le}
+use lib.ListN.{length, getD, take, drop, length-map, length-drop, List·getD-map}
 use borrow.Author.Tests.{ltb-true, lt-ltb, leb-true, le-leb}
 use Rattle.model.specs.Lists.{all, sumOf, concatOf, within}
-use Rattle.model.specs.Table.{TransitionBin, Table, noTransitionBin}
+use Rattle.model.specs.Table.{Table, noTransitionBin}
 use Rattle.model.specs.Counters.{transitionBinAt}
 use Rattle.model.specs.Sampling.{runLength}
 use Rattle.model.specs.Format.{TransitionHead, decode, decoded, accepted, tableOf}
@@ -30,7 +29,6 @@ use Rattle.arrays.specs.Flat.{Readings}
 use Rattle.arrays.proofs.PutLaws.{part-put}
 use Rattle.layout.specs.Places.{layoutOf}
 use Rattle.layout.specs.declared.Layout.{Layout as Places}
-use Rattle.sequences.proofs.Sequences.{allLengths-front}
 use Rattle.runs.specs.Runs.{binWords, allRuns, sequenceFits, binFits}
 use Rattle.runs.specs.Rows.{binRow, sequenceRows}
 use Rattle.runs.proofs.Exact.{code-read, runs-exact, runs-own}
@@ -144,30 +142,3 @@ module _ (s : List ℕ) (e : accepted s ≡ true) where
 
     pub bins-fit : all binFits (transitionsAt s (l .transitions) (l .sequences) (l .steps) (l .«step_ranges») (l .«transition_count»)) ≡ true
     bins-fit = ap (all binFits) bins-laid ∙ all-fit
-
-    bins-words : sumOf binWords (transitionsAt s (l .transitions) (l .sequences) (l .steps) (l .«step_ranges») (l .«transition_count»)) ≡ runTotal (tableOf s)
-    bins-words = ap (sumOf binWords) bins-laid ∙ sym (run-total (tableOf s))
-
-    -- the register has room for them
-    pub bins-room : (at n : ℕ) → at + runTotal (tableOf s) ≤ n
-        → at + sumOf binWords (transitionsAt s (l .transitions) (l .sequences) (l .steps) (l .«step_ranges») (l .«transition_count»)) ≤ n
-    bins-room at n h = omega (arith, bins-words)
-
-    -- what the loop over the bins wrote are the model's next runs
-    pub runs-written : (w codes : List ℕ) (at : ℕ) (w₀ w₁ : List ℕ) → at + runTotal (tableOf s) ≤ length w₀ → Readings (tableOf s) w codes
-        → w₁ ≡ put at (allRuns codes (transitionsAt s (l .transitions) (l .sequences) (l .steps) (l .«step_ranges») (l .«transition_count»)) (drop at w₀)) w₀
-        → w₁ ≡ put at (nextRuns (tableOf s) w (sequences (tableOf s)) (take (runTotal (tableOf s)) (drop at w₀))) w₀
-    runs-written w codes at w₀ w₁ h r e₁ = runs-taken w codes at w₀ w₁ h r (e₁ ∙ ap (λ (bs : List TransitionBin). put at (allRuns codes bs (drop at w₀)) w₀) bins-laid)
-
-    -- and its words are the model's lengths
-    pub lengths-written : (at : ℕ) (w lens₀ lens₁ : List ℕ) → at + runTotal (tableOf s) ≤ length w
-        → lens₁ ≡ put 0 (allLengths (transitionsAt s (l .transitions) (l .sequences) (l .steps) (l .«step_ranges») (l .«transition_count»)) (drop at w)) lens₀
-        → lens₁ ≡ put 0 (allLengths (tableOf s .transitionBins) (take (runTotal (tableOf s)) (drop at w))) lens₀
-    lengths-written at w lens₀ lens₁ h e₁ =
-        let n = runTotal (tableOf s) in
-        let runs = drop at w in
-        let room : n ≤ length runs = simp length-drop (omega arith) in
-        let k : length (take n runs) ≡ n = length-take-le n runs room in
-        e₁
-        ∙ ap₂ (λ (bs : List TransitionBin) (x : List ℕ). put 0 (allLengths bs x) lens₀) bins-laid (sym (take-append-drop n runs))
-        ∙ ap (λ (xs : List ℕ). put 0 xs lens₀) (allLengths-front (tableOf s .transitionBins) (take n runs) (drop n runs) (omega (arith, run-total (tableOf s))))

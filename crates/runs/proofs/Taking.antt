@@ -243,7 +243,7 @@ module _ (bs : List TransitionBin) (codes plan : List ℕ) (words₀ : ℕ) (l�
             kept-lens = simp length-set (going .kept-lens);
             stands = subst (λ (m : ℕ). Stands plan m (concatOf binRow others)) (sym er) (stands-next plan row (binRow bin) (concatOf binRow others) (length (binRow bin)) refl bin-own);
             words-left = omega (arith, bin-words, going .words-left);
-            runs = bin-turn codes bin others (bin .point) (bin .sequences) words words′ l l′ refl refl ew bin-space el
+            runs = bin-turn codes bin others words words′ l l′ ew bin-space el
                 ∙ ap (λ (z : List TransitionBin). put words (allRuns codes z (drop words l)) l) (sym bin-here) ∙ going .runs;
             lengths = word-turn bin others codes i y (drop words l) (drop words′ l′) lens left gone ey hi
                 ∙ ap (λ (z : List TransitionBin). put i (allLengths z (allRuns codes z (drop words l))) lens) (sym bin-here) ∙ going .lengths;
