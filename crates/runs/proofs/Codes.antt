@@ -22,9 +22,6 @@ unfolding readingFrom
 code-unknown code h = rw (le-ltb code 8589934592 (omega arith), ne-eqb code 8589934592 (λ e. omega arith))
 
 -- only a known reading is a value
-pub known-in : (f : ℕ → Bool) (code : ℕ) (b : Bool) → code < 8589934592 → b ≡ f code → b ≡ isIn f (readingFrom code)
-known-in f code b h e = e ∙ ap (isIn f) (sym (code-known code h))
-
 pub other-in : (f : ℕ → Bool) (code : ℕ) → 8589934592 ≤ code → false ≡ isIn f (readingFrom code)
 unfolding readingFrom
 other-in f code h = go (eqb code 8589934592) ∙ ap (λ (b : Bool). isIn f (cond b (known code) (cond (eqb code 8589934592) skipped unknown))) (sym (le-ltb code 8589934592 h))

@@ -2,30 +2,18 @@
 -- Assumes nothing.
 use mathlib.Core.Path.{_≡_, refl, sym, ap, ap₂, _∙_}
 use mathlib.Core.List.{List, [], _∷_, _++_}
-use Prim.Native.Nat.{ℕ, _+_, _≤_, _<_}
+use Prim.Native.Nat.{ℕ, _+_, _≤_}
 use native.Mathlib.Omega.{arith}
-use lib.ListN.{length, getD, set, take, drop, length-append, length-drop}
+use lib.ListN.{length, getD, take, drop, length-append, length-drop}
 use lib.Seq.{drop-drop, length-take-le}
 use Rattle.model.specs.Lists.{sumOf}
 use Rattle.model.specs.Table.{Step, TransitionBin}
 use Rattle.model.specs.Sampling.{Reading, runLength, nextRun}
-use Rattle.model.specs.Raw.{stepsAt}
-use Rattle.model.specs.Register.{binLengths, allLengths}
 use Rattle.model.proofs.Lists.{length-part}
 use Rattle.arrays.specs.Put.{put}
 use Rattle.arrays.proofs.PutLaws.{put-nil, put-next, drop-put}
-use Rattle.sequences.specs.declared.Steps.{Steps}
-use Rattle.sequences.specs.Described.{Fits, Describes}
-use Rattle.sequences.proofs.NextSteps.{words-shaped}
-use Rattle.sequences.proofs.Sequences.{length-nextRun, bins-turn}
-use Rattle.sequences.proofs.Places.{length-stepsAt}
-use Rattle.runs.specs.Runs.{readingFrom, binRuns, allRuns}
-
--- ---- one sequence
-
-pub fits-described : (steps : Steps) (s : List ℕ) (p r n : ℕ) (x : Reading) → Describes steps (stepsAt s p r n) x → n ≤ 16 → runLength (stepsAt s p r n) ≤ 32 → Fits steps
-fits-described steps s p r n x d few short =
-    record { few = omega (arith, d .shape .counted, length-stepsAt s p r n); short = omega (arith, words-shaped steps (stepsAt s p r n) (d .shape)) }
+use Rattle.sequences.proofs.Sequences.{length-nextRun}
+use Rattle.runs.specs.Runs.{readingFrom, binRuns, nextBin, binWords, allRuns}
 
 -- ---- a piece is written, and those that are left follow it
 
@@ -57,28 +45,14 @@ length-binRuns x (ss ∷ sss) runs h =
     length-append (nextRun ss (take n runs) x) (binRuns x sss (drop n runs))
     ∙ ap₂ _+_ (length-nextRun ss (take n runs) x (length-take-le n runs (omega arith))) (length-binRuns x sss (drop n runs) k)
 
--- the sequences sss of the bin b, whose point is p
-pub bin-turn : (codes : List ℕ) (b : TransitionBin) (bs : List TransitionBin) (p : ℕ) (sss : List (List Step)) (a e : ℕ) (w w′ : List ℕ) → p ≡ b .point → sss ≡ b .sequences
-    → e ≡ a + sumOf runLength sss → a + sumOf runLength sss ≤ length w → w′ ≡ put a (binRuns (readingFrom (getD codes p 0)) sss (drop a w)) w
-    → put e (allRuns codes bs (drop e w′)) w′ ≡ put a (allRuns codes (b ∷ bs) (drop a w)) w
+pub bin-turn : (codes : List ℕ) (b : TransitionBin) (bs : List TransitionBin) (a e : ℕ) (w w′ : List ℕ) → e ≡ a + binWords b → a + binWords b ≤ length w
+    → w′ ≡ put a (nextBin codes b (drop a w)) w → put e (allRuns codes bs (drop e w′)) w′ ≡ put a (allRuns codes (b ∷ bs) (drop a w)) w
 unfolding allRuns
-bin-turn codes b bs p sss a e w w′ ep es ee h ew =
-    let x = readingFrom (getD codes p 0) in
-    let n = sumOf runLength sss in
-    let k : n ≤ length (drop a w) = simp length-drop (omega arith) in
+bin-turn codes b bs a e w w′ ee h ew =
+    let k : binWords b ≤ length (drop a w) = simp length-drop (omega arith) in
     ap (λ (m : ℕ). put m (allRuns codes bs (drop m w′)) w′) ee
-    ∙ piece-turn (allRuns codes bs) a n (binRuns x sss (drop a w)) w w′ (length-binRuns x sss (drop a w) k) h ew
-    ∙ ap₂ (λ (m : ℕ) (ys : List (List Step)). put a (binRuns (readingFrom (getD codes m 0)) ys (drop a w) ++ allRuns codes bs (drop (sumOf runLength ys) (drop a w))) w) ep es
+    ∙ piece-turn (allRuns codes bs) a (binWords b) (nextBin codes b (drop a w)) w w′ (length-binRuns (readingFrom (getD codes (b .point) 0)) (b .sequences) (drop a w) k) h ew
 
 pub bins-none : (codes : List ℕ) (a : ℕ) (runs w : List ℕ) → put a (allRuns codes [] runs) w ≡ w
 unfolding allRuns
 bins-none codes a runs w = put-nil a w
-
--- ---- what matches
-
--- one bin's word is stored at k, and those of the bins that are left follow it
-pub word-turn : (b : TransitionBin) (bs : List TransitionBin) (sss : List (List Step)) (a e k x : ℕ) (w lens : List ℕ) → sss ≡ b .sequences → e ≡ a + sumOf runLength sss
-    → x ≡ binLengths sss (drop a w) → k < length lens → put (k + 1) (allLengths bs (drop e w)) (set lens k x) ≡ put k (allLengths (b ∷ bs) (drop a w)) lens
-word-turn b bs sss a e k x w lens es ee ex h =
-    ap₂ (λ (m y : ℕ). put (k + 1) (allLengths bs (drop m w)) (set lens k y)) (ee ∙ ap (λ (ys : List (List Step)). a + sumOf runLength ys) es) (ex ∙ ap (λ (ys : List (List Step)). binLengths ys (drop a w)) es)
-    ∙ bins-turn b bs a k w lens h

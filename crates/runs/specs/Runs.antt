@@ -1,8 +1,7 @@
--- The runs of transition bins by the codes of the points' readings, and where the records of a bin's sequences end.
+-- The runs of transition bins by the codes of the points' readings.
 -- proofs/Exact.antt shows that `allRuns` is the model's `nextRuns`.
 -- Assumes nothing.
-use Prim.Native.Nat.{ℕ, _+_, _*_, _≤_}
-use mathlib.Core.Path.{_≡_}
+use Prim.Native.Nat.{ℕ, _+_}
 use mathlib.Core.Bool.{Bool, _&&_, cond}
 use mathlib.Core.List.{List, [], _∷_, _++_}
 use lib.Dec.{leb, ltb, eqb}
@@ -10,7 +9,6 @@ use lib.ListN.{length, getD, take, drop}
 use Rattle.model.specs.Lists.{all, sumOf}
 use Rattle.model.specs.Table.{Step, TransitionBin}
 use Rattle.model.specs.Sampling.{Reading, skipped, unknown, known, runLength, nextRun}
-use Rattle.model.specs.Raw.{stepTotal, rangeTotal, sequencesAt}
 
 -- the reading whose code it is
 unfoldable pub readingFrom : ℕ → Reading
@@ -27,10 +25,14 @@ binRuns r (ss ∷ sss) runs = nextRun ss (take (runLength ss) runs) r ++ binRuns
 abbrev pub binWords : TransitionBin → ℕ
 binWords b = sumOf runLength (b .sequences)
 
--- the next runs of all bins; each point's code stands at its number
+-- those of a bin; each point's code stands at its number
+abbrev pub nextBin : List ℕ → TransitionBin → List ℕ → List ℕ
+nextBin codes b runs = binRuns (readingFrom (getD codes (b .point) 0)) (b .sequences) runs
+
+-- the next runs of all bins
 unfoldable pub allRuns : List ℕ → List TransitionBin → List ℕ → List ℕ
 allRuns codes [] runs = []
-allRuns codes (b ∷ bs) runs = binRuns (readingFrom (getD codes (b .point) 0)) (b .sequences) runs ++ allRuns codes bs (drop (binWords b) runs)
+allRuns codes (b ∷ bs) runs = nextBin codes b runs ++ allRuns codes bs (drop (binWords b) runs)
 
 -- ---- what an accepted table grants
 
@@ -41,13 +43,3 @@ sequenceFits ss = leb (length ss) 16 && leb (runLength ss) 32
 -- and for each of the bin, and the bin's point has a reading
 unfoldable pub binFits : TransitionBin → Bool
 binFits b = ltb (b .point) 16 && all sequenceFits (b .sequences)
-
--- ---- places
-
--- Where the run words, the steps and the step ranges of n sequences end, which begin at a, p and r. The sequences' records stand from q on.
-pub record Ends (s : List ℕ) (q p r a n : ℕ) (words steps ranges : ℕ) : Type 0 where
-  pub words-end : words ≡ a + sumOf runLength (sequencesAt s q p r n)
-  pub steps-end : steps ≡ p + 3 * stepTotal s q n
-  pub ranges-end : ranges ≡ r + 17 * rangeTotal s p (stepTotal s q n)
-  pub steps-near : steps ≤ p + 48 * n
-  pub ranges-near : ranges ≤ r + 69360 * n

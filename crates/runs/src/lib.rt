@@ -1,4 +1,3 @@
 // The runs of all sequences: what a sample does to them, and the lengths at which they match.
-pub mod advance;
-pub mod lengths;
-pub mod steps;
+pub mod rows;
+pub mod take;

@@ -1,9 +1,8 @@
 -- Sequences and steps by their places in the table's bytes: where the next sequence's records stand.
 -- Assumes nothing.
 use mathlib.Core.Path.{_≡_, refl, ap, _∙_}
-use mathlib.Core.List.{List, _∷_, _++_}
+use mathlib.Core.List.{List}
 use Prim.Native.Nat.{ℕ, zero, suc, _+_, _*_}
-use native.Mathlib.Omega.{arith}
 use lib.ListN.{length}
 use Rattle.model.specs.Lists.{sumOf}
 use Rattle.model.specs.Format.{byte, stepHead, rangesOfStep}
@@ -26,10 +25,3 @@ ranges-suc s p n = refl
 pub ranges-add : (s : List ℕ) (p m n : ℕ) → rangeTotal s p (m + n) ≡ rangeTotal s p m + rangeTotal s (p + 3 * m) n
 unfolding rangeTotal
 ranges-add s p m n = ap (sumOf rangesOfStep) (rows-add (stepHead s) 3 p m n) ∙ sum-append rangesOfStep (stepHeadsAt s p m) (stepHeadsAt s (p + 3 * m) n)
-
-pub ranges-past : (s : List ℕ) (q p r n : ℕ)
-    → r + 17 * rangeTotal s p (stepTotal s q (suc n)) ≡ (r + 17 * rangeTotal s p (byte s q)) + 17 * rangeTotal s (p + 3 * byte s q) (stepTotal s (q + 1) n)
-ranges-past s q p r n =
-    let e : rangeTotal s p (stepTotal s q (suc n)) ≡ rangeTotal s p (byte s q) + rangeTotal s (p + 3 * byte s q) (stepTotal s (q + 1) n)
-    = ap (rangeTotal s p) (steps-suc s q n) ∙ ranges-add s p (byte s q) (stepTotal s (q + 1) n) in
-    omega arith

@@ -1,10 +1,11 @@
 -- What a turn of each loop does, and its end: what is left to do, done to the present words, gives the whole.
 -- Assumes nothing.
 use mathlib.Core.Path.{_≡_, ap, _∙_}
-use mathlib.Core.Bool.{Bool, false, cond}
+use mathlib.Core.Bool.{Bool, cond}
 use mathlib.Core.List.{List, [], _∷_}
-use Prim.Native.Nat.{ℕ, _+_, _-_, _≤_, _<_}
+use Prim.Native.Nat.{ℕ, _+_, _-_, _/_, _%_, _≤_, _<_}
 use native.Mathlib.Omega.{arith}
+use lib.Dec.{eqb}
 use lib.Bits.{bitOr, or-zero-r}
 use lib.ListN.{length, take, drop, getD, set, drop-of-length-le}
 use lib.Seq.{getD-take, getD-drop, drop-drop}
@@ -12,8 +13,8 @@ use Rattle.model.specs.Lists.{orAll}
 use Rattle.model.specs.Sampling.{longer}
 use Rattle.model.proofs.Lists.{head-tail, one-left, length-part}
 use Rattle.model.proofs.RunBits.{or-assoc}
-use Rattle.sequences.specs.Described.{sumFirst}
-use Rattle.sequences.specs.Words.{stepWords, completeFrom, stepsWords}
+use Rattle.sequences.specs.Shapes.{wordsOf}
+use Rattle.sequences.specs.Words.{stepWords, completeFrom, shapeWords}
 use Rattle.arrays.specs.Put.{put}
 use Rattle.arrays.proofs.PutLaws.{put-nil, put-cons, put-next}
 use Rattle.sequences.proofs.NextSteps.{length-stepWords}
@@ -65,38 +66,35 @@ words-end old words at most j next b h =
     let z : most - j ≡ 0 = omega arith in
     rw z (put-nil (at + j) words)
 
--- ---- run_length
+-- ---- next: a turn takes one step's two numbers
 
-pub sum-turn : (n s : ℕ) (ms : List ℕ) → s < n → s < length ms → sumFirst (n - s) (drop s ms) ≡ getD ms s 0 + sumFirst (n - (s + 1)) (drop (s + 1) ms)
-unfolding sumFirst
-sum-turn n s ms h k = rw (one-left n s h, head-tail ms s 0 k)
+two-left : (shape : List ℕ) (s : ℕ) → s + 1 < length shape → drop s shape ≡ getD shape s 0 ∷ getD shape (s + 1) 0 ∷ drop (s + 2) shape
+two-left shape s h =
+    let e : (s + 1) + 1 ≡ s + 2 = omega arith in
+    head-tail shape s 0 (omega arith) ∙ ap (getD shape s 0 ∷_) (head-tail shape (s + 1) 0 h ∙ ap (λ (n : ℕ). getD shape (s + 1) 0 ∷ drop n shape) e)
 
-pub sum-end : (n s : ℕ) (ms : List ℕ) → n ≤ s → sumFirst (n - s) (drop s ms) ≡ 0
-unfolding sumFirst
-sum-end n s ms h =
-    let z : n - s ≡ 0 = omega arith in
-    rw z
+pub mosts-turn : (shape : List ℕ) (s : ℕ) → s + 1 < length shape → wordsOf (drop s shape) ≡ getD shape (s + 1) 0 + wordsOf (drop (s + 2) shape)
+unfolding wordsOf
+mosts-turn shape s h = rw (two-left shape s h)
 
--- ---- next
-
-pub steps-turn : (n s at enter enter′ : ℕ) (ls ms : List ℕ) (bs : List Bool) (old words words′ : List ℕ)
-    → s < n → s < length ls → s < length ms → s < length bs → at + getD ms s 0 ≤ length old → length words ≡ length old
-    → words′ ≡ put at (stepWords (getD bs s false) enter (take (getD ms s 0) (drop at old))) words
-    → enter′ ≡ longer (completeFrom (getD ls s 0) (take (getD ms s 0) (drop at old)))
-    → put (at + getD ms s 0) (stepsWords (n - (s + 1)) (drop (s + 1) ls) (drop (s + 1) ms) (drop (s + 1) bs) enter′ (drop (at + getD ms s 0) old)) words′
-    ≡ put at (stepsWords (n - s) (drop s ls) (drop s ms) (drop s bs) enter (drop at old)) words
-unfolding stepsWords
-steps-turn n s at enter enter′ ls ms bs old words words′ h hl hm hb ho hw e₁ e₂ =
-    let m = getD ms s 0 in
-    let xs = stepWords (getD bs s false) enter (take m (drop at old)) in
+pub shape-turn : (shape : List ℕ) (s at left enter enter′ : ℕ) (old words words′ : List ℕ)
+    → s + 1 < length shape → at + getD shape (s + 1) 0 ≤ length old → length words ≡ length old
+    → words′ ≡ put at (stepWords (eqb (left % 2) 1) enter (take (getD shape (s + 1) 0) (drop at old))) words
+    → enter′ ≡ longer (completeFrom (getD shape s 0) (take (getD shape (s + 1) 0) (drop at old)))
+    → put (at + getD shape (s + 1) 0) (shapeWords (drop (s + 2) shape) (left / 2) enter′ (drop (at + getD shape (s + 1) 0) old)) words′
+    ≡ put at (shapeWords (drop s shape) left enter (drop at old)) words
+unfolding shapeWords
+shape-turn shape s at left enter enter′ old words words′ h ho hw e₁ e₂ =
+    let m = getD shape (s + 1) 0 in
+    let xs = stepWords (eqb (left % 2) 1) enter (take m (drop at old)) in
     let len : length xs ≡ m = length-stepWords _ _ _ ∙ length-part old at m ho in
-    rw (one-left n s h, head-tail ls s 0 hl, head-tail ms s 0 hm, head-tail bs s false hb, e₁, e₂, ← drop-drop m at old)
+    rw (two-left shape s h, e₁, e₂, ← drop-drop m at old)
     (put-next at m xs _ words len (omega arith))
 
-pub steps-end : (n s at enter : ℕ) (ls ms : List ℕ) (bs : List Bool) (ws words : List ℕ) → n ≤ s → put at (stepsWords (n - s) ls ms bs enter ws) words ≡ words
-unfolding stepsWords
-steps-end n s at enter ls ms bs ws words h =
-    let z : n - s ≡ 0 = omega arith in
+pub shape-end : (shape : List ℕ) (s at left enter : ℕ) (ws words : List ℕ) → length shape ≤ s → put at (shapeWords (drop s shape) left enter ws) words ≡ words
+unfolding shapeWords
+shape-end shape s at left enter ws words h =
+    let z : drop s shape ≡ [] = drop-of-length-le shape h in
     rw z (put-nil at words)
 
 -- ---- load and store

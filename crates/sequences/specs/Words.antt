@@ -1,9 +1,10 @@
 -- Run words, step by step, as the code goes through them: for the contracts of inner functions.
--- proofs/NextSteps.antt shows that this is the model's `nextSteps`.
+-- proofs/Shapes.antt shows that this is the model's `nextSteps`.
 -- Assumes nothing.
-use Prim.Native.Nat.{ℕ, zero, suc, _+_, _-_}
+use Prim.Native.Nat.{ℕ, _+_, _-_, _/_, _%_}
 use mathlib.Core.Bool.{Bool, cond}
 use mathlib.Core.List.{List, [], _∷_, _++_}
+use lib.Dec.{eqb}
 use lib.ListN.{length, take, drop, replicate}
 use Rattle.model.specs.Lists.{orAll}
 use Rattle.model.specs.Sampling.{longer}
@@ -17,14 +18,12 @@ stepWords b enter (w ∷ ws) = cond b enter 0 ∷ stepWords b (longer w) ws
 abbrev pub completeFrom : ℕ → List ℕ → ℕ
 completeFrom least ws = orAll (drop (least - 1) ws)
 
--- the next words of n steps, by their leasts, their mosts, and whether the reading is in each
-unfoldable pub stepsWords : ℕ → List ℕ → List ℕ → List Bool → ℕ → List ℕ → List ℕ
-stepsWords zero ls ms bs enter ws = []
-stepsWords (suc n) [] ms bs enter ws = []
-stepsWords (suc n) (l ∷ ls) [] bs enter ws = []
-stepsWords (suc n) (l ∷ ls) (m ∷ ms) [] enter ws = []
-stepsWords (suc n) (l ∷ ls) (m ∷ ms) (b ∷ bs) enter ws =
-    stepWords b enter (take m ws) ++ stepsWords n ls ms bs (longer (completeFrom l (take m ws))) (drop m ws)
+-- the next words of a shape's steps, where the lowest bit of `left` admits the first of them
+unfoldable pub shapeWords : List ℕ → ℕ → ℕ → List ℕ → List ℕ
+shapeWords [] left enter ws = []
+shapeWords (l ∷ []) left enter ws = []
+shapeWords (l ∷ m ∷ shape) left enter ws =
+    stepWords (eqb (left % 2) 1) enter (take m ws) ++ shapeWords shape (left / 2) (longer (completeFrom l (take m ws))) (drop m ws)
 
 -- 32 words: those of xs, and 0 after them
 abbrev pub padded : List ℕ → List ℕ

@@ -6,21 +6,13 @@ ghost use Prim.Native.Nat.{_+_, _-_, _≤_};
 ghost use lib.ListN.{length, take, drop, replicate};
 ghost use Rattle.model.specs.Table.{Step};
 ghost use Rattle.model.specs.Sampling.{Reading, runLength, nextSteps, matchedLengths};
-ghost use Rattle.sequences.specs.Described.{wordsOf, Fits, Shaped, Describes};
+ghost use Rattle.sequences.specs.Shapes.{shapeOf, admittedBits, wordsOf, Fits};
 ghost use Rattle.sequences.specs.Words.{stepWords, completeFrom, padded};
 ghost use Rattle.arrays.specs.Put.{put};
 
 // The run words of a sequence come first, one for each unit of its steps' mosts. The words after them are free.
 pub struct Run {
     pub words: [u32; 32],
-}
-
-// The steps of a sequence, from the first on: how many readings in a row each takes, and whether the sample's reading lies in it.
-pub struct Steps {
-    pub count: usize,
-    pub least: [u8; 16],
-    pub most: [u8; 16],
-    pub inside: [bool; 16],
 }
 
 // n - 1, and 0 for 0.
@@ -67,27 +59,26 @@ fn step_words(old: &[u32], words: &mut [u32], at: usize, most: usize, inside: bo
 }
 
 impl Run {
-    // The run after the sample's reading. Length 1 enters the first step; what completes a step enters the next one. Free words become 0.
-    pub fn next(self, steps: Steps) -> Run
-        requires { ⌜ Fits steps ⌝ }
-        ensures { λ r. ⌜ ((ss : List Step) (reading : Reading) → Describes steps ss reading → r .words ≡ nextSteps ss (take (runLength ss) (self .words)) 1 reading ++ replicate (32 - runLength ss) 0) ⌝ }
+    // The run after a reading that lies in the admitted steps. Length 1 enters the first step; what completes a step enters the next one. Free words become 0.
+    pub fn next(self, shape: &[u64], admitted: u64) -> Run
+        requires { ⌜ Fits (now shape) ⌝ }
+        ensures { λ r. ⌜ ((ss : List Step) (reading : Reading) → now (shape .entry) ≡ shapeOf ss → admitted ≡ admittedBits ss reading → r .words ≡ nextSteps ss (take (runLength ss) (self .words)) 1 reading ++ replicate (32 - runLength ss) 0) ⌝ }
     {
-        let n = steps.count;
-        let least = steps.least;
-        let most = steps.most;
-        let inside = steps.inside;
+        let n = shape.len();
         let old = self.words;
         let mut words = [0u32; 32];
         let mut enter: u32 = 1;
+        let mut left = admitted;
         let mut at = 0;
         let mut s = 0;
         while s < n {
-            let m = most[s] as usize;
-            let l = least[s] as usize;
-            step_words(&old, &mut words, at, m, inside[s], enter);
-            enter = complete(&old, at, l, m) << 1;
-            at += m;
-            s += 1;
+            let least = shape[s] as usize;
+            let most = shape[s + 1] as usize;
+            step_words(&old, &mut words, at, most, left % 2 == 1, enter);
+            enter = complete(&old, at, least, most) << 1;
+            at += most;
+            left = left / 2;
+            s += 2;
         }
         Run { words }
     }
@@ -120,68 +111,41 @@ fn store(words: &mut [u32], run: Run)
     }
 }
 
-// Writes a sequence's next run over its words, which are all that is lent.
-pub fn write_run(words: &mut [u32], steps: Steps)
-    requires { ⌜ Fits steps ⌝ }
-    requires { ⌜ length (now words) ≡ wordsOf steps ⌝ }
-    ensures { λ _. ⌜ ((ss : List Step) (reading : Reading) → Describes steps ss reading → now (words .exit) ≡ nextSteps ss (now (words .entry)) 1 reading) ⌝ }
+fn clear(words: &mut [u32])
+    ensures { λ _. ⌜ now (words .exit) ≡ replicate (length (now (words .entry))) 0 ⌝ }
 {
+    let mut i = 0;
+    while i < words.len() {
+        words[i] = 0;
+        i += 1;
+    }
+}
+
+// Writes a sequence's next run over its words, which are all that is lent. A reading that lies in no step leaves nothing.
+pub fn write_run(words: &mut [u32], shape: &[u64], admitted: u64)
+    requires { ⌜ Fits (now shape) ⌝ }
+    requires { ⌜ length (now words) ≡ wordsOf (now shape) ⌝ }
+    ensures { λ _. ⌜ ((ss : List Step) (reading : Reading) → now (shape .entry) ≡ shapeOf ss → admitted ≡ admittedBits ss reading → now (words .exit) ≡ nextSteps ss (now (words .entry)) 1 reading) ⌝ }
+{
+    if admitted == 0 {
+        clear(words);
+        return;
+    }
     let run = load(words);
-    store(words, run.next(steps));
+    store(words, run.next(shape, admitted));
 }
 
 // The lengths at which the whole sequence matches, by its words: those at which its last step is complete.
-pub fn matched_lengths(words: &[u32], steps: Steps) -> u32
-    requires { ⌜ Fits steps ⌝ }
-    requires { ⌜ length (now words) ≡ wordsOf steps ⌝ }
-    ensures { λ r. ⌜ ((ss : List Step) → Shaped steps ss → r ≡ matchedLengths ss (now (words .entry))) ⌝ }
+pub fn matched_lengths(words: &[u32], shape: &[u64]) -> u32
+    requires { ⌜ Fits (now shape) ⌝ }
+    requires { ⌜ length (now words) ≡ wordsOf (now shape) ⌝ }
+    ensures { λ r. ⌜ ((ss : List Step) → now (shape .entry) ≡ shapeOf ss → r ≡ matchedLengths ss (now (words .entry))) ⌝ }
 {
-    let n = steps.count;
+    let n = shape.len();
     if n == 0 {
         return 0;
     }
-    let i = n - 1;
-    let least = steps.least;
-    let most = steps.most;
-    let l = least[i] as usize;
-    let m = most[i] as usize;
-    complete(words, words.len() - m, l, m)
-}
-
-// How many run words the steps have.
-pub fn run_length(steps: Steps) -> usize
-    requires { ⌜ Fits steps ⌝ }
-    ensures { λ r. ⌜ r ≡ wordsOf steps ⌝ }
-{
-    let n = steps.count;
-    let most = steps.most;
-    let mut total: usize = 0;
-    let mut s = 0;
-    while s < n {
-        total += most[s] as usize;
-        s += 1;
-    }
-    total
-}
-
-// Writes a sequence's next run in the register, where its words stand from `a` on. Answers where they end.
-pub fn advance(register: &mut [u32], a: usize, steps: Steps) -> usize
-    requires { ⌜ Fits steps ⌝ }
-    requires { ⌜ a + wordsOf steps ≤ length (now register) ⌝ }
-    ensures { λ r. ⌜ r ≡ a + wordsOf steps ⌝ }
-    ensures { λ _. ⌜ ((ss : List Step) (reading : Reading) → Describes steps ss reading → now (register .exit) ≡ take a (now (register .entry)) ++ nextSteps ss (take (runLength ss) (drop a (now (register .entry)))) 1 reading ++ drop (a + runLength ss) (now (register .entry))) ⌝ }
-{
-    let e = a + run_length(steps);
-    write_run(&mut register[a..e], steps);
-    e
-}
-
-// The lengths at which a sequence matches, by its words in the register, which stand from `a` on.
-pub fn lengths_at(register: &[u32], a: usize, steps: Steps) -> u32
-    requires { ⌜ Fits steps ⌝ }
-    requires { ⌜ a + wordsOf steps ≤ length (now register) ⌝ }
-    ensures { λ r. ⌜ ((ss : List Step) → Shaped steps ss → r ≡ matchedLengths ss (take (runLength ss) (drop a (now (register .entry))))) ⌝ }
-{
-    let e = a + run_length(steps);
-    matched_lengths(&register[a..e], steps)
+    let least = shape[n - 2] as usize;
+    let most = shape[n - 1] as usize;
+    complete(words, words.len() - most, least, most)
 }
