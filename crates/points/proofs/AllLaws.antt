@@ -18,17 +18,17 @@ use Rattle.model.specs.Register.{pointTotal, inWidths, runStretches}
 use Rattle.model.proofs.Sections.{accepted-layout, accepted-decodes}
 use Rattle.model.proofs.AccessTransitions.{transitions-access}
 use Rattle.model.proofs.Lists.{from-step, from-end, getD-row}
-use Rattle.model.proofs.RawExact.{many-points, few-points}
+use Rattle.model.proofs.RawExact.{few-points}
 use Rattle.arrays.specs.Flat.{hitFlags, allPointCounters, readingCode, readingCodes}
 use Rattle.values.proofs.PointExact.{hit-append, few-counters}
 use Rattle.layout.specs.declared.Layout.{Layout}
 use Rattle.layout.specs.Places.{layoutOf}
+use Rattle.layout.proofs.PlaceLaws.{points-total}
 use Rattle.points.specs.Hits.{valueHits, transitionHits, pointHits}
 use Rattle.points.specs.Transitions.{transitionFlags}
 use Rattle.points.proofs.Counted.{any-stretches}
 use Rattle.points.proofs.ValueLaws.{in-type}
 use Rattle.points.proofs.TransitionExact.{transition-hits}
-use Rattle.points.proofs.ReadingLaws.{points-counted}
 
 -- ---- one point
 
@@ -109,7 +109,7 @@ all-length t w lens = length-map (allPointCounters t) (λ c. asBit (hits t w (ru
 
 module _ (s : List ℕ) (ok : accepted s ≡ true) where
   pub point-number : (l : Layout) → l ≡ layoutOf s → (l .«point_count» ≡ pointTotal (tableOf s)) × (pointTotal (tableOf s) ≤ 16)
-  point-number l e = (points-counted s l e ∙ sym (many-points s ok), few-points s ok)
+  point-number l e = (points-total s ok (l .«point_count») (ap (λ (x : Layout). x .«point_count») e), few-points s ok)
 
   pub few-here : (p : ℕ) → p < pointTotal (tableOf s) → length (pointCounters (tableOf s) p) ≤ 256
   few-here p h = few-counters s (tableOf s) (accepted-decodes s ok) p h
