@@ -9,12 +9,12 @@ use lib.ListN.{getD}
 use Rattle.model.specs.Format.{accepted, decode, decoded, tableOf}
 use Rattle.model.specs.Register.{pointTotal, counterTotal, illegalTotal}
 use Rattle.model.proofs.RawExact.{few-points}
-use Rattle.layout.specs.Places.{layoutOf}
-use Rattle.layout.specs.declared.Layout.{Layout}
+use Rattle.layout.specs.Places.{layoutOf, binSectionsOf}
+use Rattle.layout.specs.declared.BinSections.{BinSections}
+use Rattle.layout.proofs.PlaceLaws.{points-total}
 use Rattle.lists.specs.Lists.{illegalsAt, listsNeed}
 use Rattle.lists.specs.Lists as Lists
 use Rattle.lists.proofs.SizeLaws.{plan-size, lists-size, lists-most, ranges-count}
-use Rattle.crosses.proofs.Places.{count-points}
 use Rattle.register.proofs.FigureLaws.{known-accepted}
 use Rattle.pieces.specs.Plan.{planNeed}
 use Rattle.pieces.proofs.PlanTurns.{plan-need}
@@ -23,12 +23,12 @@ use Rattle.sampling.proofs.Joins.{largest-room}
 use Rattle.samples.proofs.ReportLaws.{illegal-many}
 
 -- the points by the table's bytes, the illegal counters by the lists
-pub counted : (s plan lists : List ℕ) → decode s ≡ decoded (tableOf s) → Lists.Ready (tableOf s) plan lists → (l : Layout) → l ≡ layoutOf s → (k : ℕ) → k ≡ getD lists (81 + 514 * l .«point_count») 0
-    → (l .«point_count» ≡ pointTotal (tableOf s)) × (k ≡ illegalTotal (tableOf s))
-counted s plan lists known h l e k g =
-    let n = count-points s (known-accepted s known) l e in
-    let at : 81 + 514 * l .«point_count» ≡ illegalsAt (pointTotal (tableOf s)) = omega (arith, n) in
-    (n, g ∙ ap (λ (i : ℕ). getD lists i 0) at ∙ h .planned .illegals ∙ illegal-many (tableOf s))
+pub counted : (s plan lists : List ℕ) → decode s ≡ decoded (tableOf s) → Lists.Ready (tableOf s) plan lists → (n : ℕ) → n ≡ layoutOf s .«point_count» → (k : ℕ) → k ≡ getD lists (81 + 514 * n) 0
+    → (n ≡ pointTotal (tableOf s)) × (k ≡ illegalTotal (tableOf s))
+counted s plan lists known h n e k g =
+    let m = points-total s (known-accepted s known) n e in
+    let at : 81 + 514 * n ≡ illegalsAt (pointTotal (tableOf s)) = omega (arith, m) in
+    (m, g ∙ ap (λ (i : ℕ). getD lists i 0) at ∙ h .planned .illegals ∙ illegal-many (tableOf s))
 
 -- ---- the size classes
 
@@ -38,7 +38,7 @@ module _ (s : List ℕ) (ok : accepted s ≡ true) where
       let r = largest-room s ok in
       (r, plan-need s ok, omega (arith, lists-most s ok, few-points s ok, r .1))
 
-  module _ (l : Layout) (e : l ≡ layoutOf s) (counters points : ℕ) (ec : counters ≡ counterTotal (tableOf s)) (ep : points ≡ pointTotal (tableOf s)) where
+  module _ (l : BinSections) (e : l ≡ binSectionsOf s) (counters points : ℕ) (ec : counters ≡ counterTotal (tableOf s)) (ep : points ≡ pointTotal (tableOf s)) where
     need-is : planNeed (tableOf s) ≤ 11 * l .«range_count» + 3 * counters + 10 * points
     need-is = omega (arith, plan-size s ok, ranges-count s ok l e, ec, ep)
 

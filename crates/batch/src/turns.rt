@@ -1,7 +1,8 @@
 // The samples of a batch, in turn, on a table and a register that passed their tests. What is needed of the table is worked out once.
 use crate::Taken;
 use arrays::element;
-use layout::layout_of;
+use layout::bin_sections;
+use layout::point_count;
 use register::refusals::own_refusal;
 use samples::single::prepare;
 use samples::write::write_planned;
@@ -31,8 +32,7 @@ fn one(
     requires { ⌜ Ready (now t) (now register) × Prepared (now t) (now plan) (now lists) (length (now hits)) ⌝ }
     ensures { λ r. ⌜ Done (call (now (t .entry)) (now (register .entry)) (sample (now (s .entry)) (now (report .entry)))) r (now (register .exit)) (now (report .exit)) ⌝ }
 {
-    let l = layout_of(t);
-    let points = l.point_count;
+    let points = point_count(t);
     let illegals = element(lists, 81 + 514 * points) as usize;
     let number = own_refusal(t, s, report, register[0], register[1], points, illegals);
     if number != 0 {
@@ -63,8 +63,7 @@ fn each(
     requires { ⌜ Ready (now t) (now register) × Prepared (now t) (now plan) (now lists) (length (now hits)) ⌝ }
     ensures { λ r. ⌜ Took (turns (now (t .entry)) (tableOf (now (t .entry))) (now (register .entry)) (now (s .entry)) (now (reports .entry))) r (now (register .exit)) (now (reports .exit)) ⌝ }
 {
-    let l = layout_of(t);
-    let points = l.point_count;
+    let points = point_count(t);
     let size = 4 + 2 * points;
     let illegals = element(lists, 81 + 514 * points) as usize;
     let mut a = 0;
@@ -137,7 +136,7 @@ pub fn all(register: &mut [u32], reports: &mut [u32], t: &[u8], s: &[u32], f: Fa
             taken: 0,
         };
     }
-    let l = layout_of(t);
+    let l = bin_sections(t);
     let counters = f.counters;
     let points = f.points;
     let need = 11 * l.range_count + 3 * counters + 10 * points;

@@ -1,6 +1,6 @@
 // One sample: what is needed of its table is worked out, and the sample is written. Size classes: a small table does not pay for the clearing of large arrays.
 use crate::write::write_planned;
-use layout::layout_of;
+use layout::bin_sections;
 use lists::put_ready;
 use sampling::put_kinds;
 ghost use mathlib.Core.Path.{_≡_};
@@ -76,7 +76,7 @@ pub fn write_sample(
     ensures { λ _. ⌜ now (register .exit) ≡ sampledWords (tableOf (now (t .entry))) (now (sample .entry)) (now (register .entry)) ⌝ }
     ensures { λ _. ⌜ now (report .exit) ≡ sampledReport (tableOf (now (t .entry))) (now (sample .entry)) (now (register .entry)) (now (report .entry)) ⌝ }
 {
-    let l = layout_of(t);
+    let l = bin_sections(t);
     let need = 11 * l.range_count + 3 * counters + 10 * points;
     if counters <= 1024 {
         if points <= 4 {

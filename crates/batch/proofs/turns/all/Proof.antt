@@ -9,8 +9,8 @@ use Rattle.batch.proofs.turns.all.Tie as tie
 returns : tie.Need-returns
 returns c = took-none _ _ _ _ _ (c .if1 .taken)
 
-layout-of-requires : tie.Need-layout-of-requires
-layout-of-requires c κs = search needs
+bin-sections-requires : tie.Need-bin-sections-requires
+bin-sections-requires c κs = search needs
 
 mul-need : tie.Need-mul-need
 mul-need c = search needs
@@ -30,7 +30,7 @@ add-need-2 c = omega (arith, c .before .before .before .before .before .before .
 small-requires : tie.Need-small-requires
 small-requires c κs =
     let p = c .before .before .before .before .before .before .before .before .before .before .before .before .pre in
-    let l = c .before .before .before .before .before .before .layout-of in
+    let l = c .before .before .before .before .before .before .bin-sections in
     let q = small-fits _ (known-accepted _ (p .0 .known)) (l .result) (l .ensures .0) _ _ (p .1 .counters) (p .1 .points) (c .before .before .before .before .if2 .taken) (c .before .before .before .if3 .taken) (c .before .before .if4 .taken) in
     (p .0, q .0, q .1, q .2)
 
@@ -46,7 +46,7 @@ returns-2 c = search needs
 medium-requires : tie.Need-medium-requires
 medium-requires c κs =
     let p = c .before .before .before .before .before .before .before .before .before .before .before .before .pre in
-    let l = c .before .before .before .before .before .before .layout-of in
+    let l = c .before .before .before .before .before .before .bin-sections in
     let q = medium-fits _ (known-accepted _ (p .0 .known)) (l .result) (l .ensures .0) _ _ (p .1 .counters) (p .1 .points) (p .2 .points) (c .before .before .before .if5 .taken) (c .before .before .if6 .taken) in
     (p .0, q .0, q .1, q .2)
 
@@ -76,7 +76,7 @@ all-spec =
     tie.close
     (tie.spec
     returns
-    layout-of-requires
+    bin-sections-requires
     mul-need
     mul-need-2
     add-need

@@ -7,13 +7,12 @@ use Rattle.samples.proofs.single.write_sample.Statement.{statement}
 use Rattle.samples.proofs.single.write_sample.Tie as tie
 use Rattle.samples.proofs.single.write_sample.Reads as reads
 use Rattle.samples.proofs.single.write_sample.Lts as lts
-use Rattle.layout.proofs.layout_of.Reads as layout-of-reads
 use Rattle.samples.proofs.single.write_largest.Reads as write-largest-reads
 use Rattle.samples.proofs.single.write_medium.Reads as write-medium-reads
 use Rattle.samples.proofs.single.write_small.Reads as write-small-reads
 
-layout-of-requires : tie.Need-layout-of-requires
-layout-of-requires c κs = search needs
+bin-sections-requires : tie.Need-bin-sections-requires
+bin-sections-requires c κs = search needs
 
 mul-need : tie.Need-mul-need
 mul-need c = search needs
@@ -23,7 +22,6 @@ mul-need-2 c =
     let b = c .before .before .before .before .before .before .args .t .now in
     let p = c .before .before .before .before .before .before .pre in
     let room = largest-room b (p .0 .0) in
-    let lay = c .before .layout-of in
     omega (arith, p .0 .1, p .0 .2, room .1, few-points b (p .0 .0))
 
 add-need : tie.Need-add-need
@@ -31,7 +29,6 @@ add-need c =
     let b = c .before .before .before .before .before .before .args .t .now in
     let p = c .before .before .before .before .before .before .pre in
     let room = largest-room b (p .0 .0) in
-    let lay = c .before .layout-of in
     omega (arith, p .0 .1, p .0 .2, room .1, few-points b (p .0 .0))
 
 mul-need-3 : tie.Need-mul-need-3
@@ -39,7 +36,6 @@ mul-need-3 c =
     let b = c .before .before .before .before .before .before .args .t .now in
     let p = c .before .before .before .before .before .before .pre in
     let room = largest-room b (p .0 .0) in
-    let lay = c .before .layout-of in
     omega (arith, p .0 .1, p .0 .2, room .1, few-points b (p .0 .0))
 
 add-need-2 : tie.Need-add-need-2
@@ -47,7 +43,6 @@ add-need-2 c =
     let b = c .before .before .before .before .before .before .args .t .now in
     let p = c .before .before .before .before .before .before .pre in
     let room = largest-room b (p .0 .0) in
-    let lay = c .before .layout-of in
     omega (arith, p .0 .1, p .0 .2, room .1, few-points b (p .0 .0))
 
 write-small-requires : tie.Need-write-small-requires
@@ -55,7 +50,7 @@ write-small-requires c κs =
     let b = c .before .before .before .before .before .before .before .before .before .before .before .args .t .now in
     let p = c .before .before .before .before .before .before .before .before .before .before .before .pre in
     let room = largest-room b (p .0 .0) in
-    let lay = c .before .before .before .before .before .before .layout-of in
+    let lay = c .before .before .before .before .before .before .bin-sections in
     let e = ranges-count b (p .0 .0) (lay .result) (lay .ensures .0) in
     (p .0 .0, (omega (arith, p .0 .2), omega (arith, p .0 .1)), omega (arith, plan-size b (p .0 .0), e, p .0 .1, p .0 .2), omega (arith, lists-size b (p .0 .0), p .0 .1, p .0 .2), p .1)
 
@@ -73,7 +68,7 @@ write-medium-requires c κs =
     let b = c .before .before .before .before .before .before .before .before .before .before .before .args .t .now in
     let p = c .before .before .before .before .before .before .before .before .before .before .before .pre in
     let room = largest-room b (p .0 .0) in
-    let lay = c .before .before .before .before .before .before .layout-of in
+    let lay = c .before .before .before .before .before .before .bin-sections in
     let e = ranges-count b (p .0 .0) (lay .result) (lay .ensures .0) in
     (p .0 .0, (omega (arith, few-points b (p .0 .0)), omega (arith, p .0 .1)), omega (arith, plan-size b (p .0 .0), e, p .0 .1, p .0 .2), omega (arith, lists-size b (p .0 .0), few-points b (p .0 .0), p .0 .1, p .0 .2), p .1)
 
@@ -102,7 +97,7 @@ pub write-sample-spec : {M : Type 1} → statement M
 write-sample-spec =
     tie.close
     (tie.spec
-    layout-of-requires
+    bin-sections-requires
     mul-need
     mul-need-2
     add-need
