@@ -25,12 +25,12 @@ use Rattle.samples.proofs.ReportLaws.{illegal-many}
 use Rattle.batch.specs.Turns.{Sized}
 
 -- the points by the table's bytes, the illegal counters by the lists
-pub counted : (s plan lists : List ℕ) → decode s ≡ decoded (tableOf s) → Lists.Ready (tableOf s) plan lists → (l : Layout) → l ≡ layoutOf s → (k : ℕ) → k ≡ getD lists (81 + 514 * l .«point_count») 0
-    → (l .«point_count» ≡ pointTotal (tableOf s)) × (k ≡ illegalTotal (tableOf s))
-counted s plan lists known h l e k g =
-    let n = count-points s (known-accepted s known) l e in
-    let at : 81 + 514 * l .«point_count» ≡ illegalsAt (pointTotal (tableOf s)) = omega (arith, n) in
-    (n, g ∙ ap (λ (i : ℕ). getD lists i 0) at ∙ h .planned .illegals ∙ illegal-many (tableOf s))
+pub counted : (s plan lists : List ℕ) → decode s ≡ decoded (tableOf s) → Lists.Ready (tableOf s) plan lists → (n : ℕ) → n ≡ layoutOf s .«point_count» → (k : ℕ) → k ≡ getD lists (81 + 514 * n) 0
+    → (n ≡ pointTotal (tableOf s)) × (k ≡ illegalTotal (tableOf s))
+counted s plan lists known h n e k g =
+    let m = points-total s (known-accepted s known) n e in
+    let at : 81 + 514 * n ≡ illegalsAt (pointTotal (tableOf s)) = omega (arith, m) in
+    (m, g ∙ ap (λ (i : ℕ). getD lists i 0) at ∙ h .planned .illegals ∙ illegal-many (tableOf s))
 
 -- ---- the size classes
 

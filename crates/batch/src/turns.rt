@@ -30,8 +30,7 @@ fn one(
     requires { ⌜ Ready (now t) (now register) × Prepared (now t) (now plan) (now lists) (length (now hits)) ⌝ }
     ensures { λ r. ⌜ Done (call (now (t .entry)) (now (register .entry)) (sample (now (s .entry)) (now (report .entry)))) r (now (register .exit)) (now (report .exit)) ⌝ }
 {
-    let l = layout_of(t);
-    let points = l.point_count;
+    let points = point_count(t);
     let illegals = element(lists, 81 + 514 * points) as usize;
     let number = own_refusal(t, s, report, register[0], register[1], points, illegals);
     if number != 0 {
@@ -62,8 +61,7 @@ fn each(
     requires { ⌜ Ready (now t) (now register) × Prepared (now t) (now plan) (now lists) (length (now hits)) ⌝ }
     ensures { λ r. ⌜ Took (turns (now (t .entry)) (tableOf (now (t .entry))) (now (register .entry)) (now (s .entry)) (now (reports .entry))) r (now (register .exit)) (now (reports .exit)) ⌝ }
 {
-    let l = layout_of(t);
-    let points = l.point_count;
+    let points = point_count(t);
     let size = 4 + 2 * points;
     let illegals = element(lists, 81 + 514 * points) as usize;
     let mut a = 0;

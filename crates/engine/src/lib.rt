@@ -3,7 +3,7 @@ use arrays::element;
 use crosshits::all::put_cross_hits;
 use found::all::find_all;
 use hits::all::put_point_hits;
-use layout::layout_of;
+use layout::point_count;
 ghost use mathlib.Core.Path.{_≡_};
 ghost use mathlib.Core.Bool.{true};
 ghost use Prim.Native.Nat.{_+_, _*_, _≤_};
@@ -32,8 +32,8 @@ fn put_crossed(
     ensures { λ r. ⌜ ((m : Stretches) → (r ≡ length (placesFrom (hitBy (tableOf (now (t .entry))) (now (sample .entry)) m) base (allCrossCounters (tableOf (now (t .entry)))))) × (now (hits .exit) ≡ put 0 (placesFrom (hitBy (tableOf (now (t .entry))) (now (sample .entry)) m) base (allCrossCounters (tableOf (now (t .entry))))) (now (hits .entry)))) ⌝ }
 {
     let mut list = [0u16; 1024];
-    let l = layout_of(t);
-    let at = 81 + 514 * l.point_count;
+    let n = point_count(t);
+    let at = 81 + 514 * n;
     let c = element(lists, at) as usize;
     put_cross_hits(
         hits,
@@ -60,8 +60,7 @@ fn put_hits(
     requires { ⌜ Found (tableOf (now t)) (now sample) (now found) × (257 * pointTotal (tableOf (now t)) ≤ length (now found)) × Listed (tableOf (now t)) (now lists) × Marked (tableOf (now t)) (drop (marksAt (tableOf (now t))) (now lists)) × (listsNeed (tableOf (now t)) ≤ length (now lists)) ⌝ }
     ensures { λ r. ⌜ (r ≡ length (hitPlaces (tableOf (now (t .entry))) (now (sample .entry)) (runStretches (take (length (tableOf (now (t .entry)) .transitionBins)) (now (lens .entry)))))) × (now (hits .exit) ≡ put 0 (hitPlaces (tableOf (now (t .entry))) (now (sample .entry)) (runStretches (take (length (tableOf (now (t .entry)) .transitionBins)) (now (lens .entry))))) (now (hits .entry))) ⌝ }
 {
-    let l = layout_of(t);
-    let n = l.point_count;
+    let n = point_count(t);
     let at = 64 + 256 * n;
     let k = put_point_hits(hits, t, sample, readings, lens, found, &lists[at..]);
     let base = element(lists, 64 + 515 * n) as usize;
@@ -118,8 +117,8 @@ pub fn find_hits(
     requires { ⌜ (accepted (now t) ≡ true) × Readings (tableOf (now t)) (now sample) (now readings) × (16 ≤ length (now readings)) × (64 ≤ length (now lens)) × (counterTotal (tableOf (now t)) + 256 ≤ length (now hits)) × Planned (tableOf (now t)) (now plan) (now lists) ⌝ }
     ensures { λ r. ⌜ (r ≡ length (hitPlaces (tableOf (now (t .entry))) (now (sample .entry)) (runStretches (take (length (tableOf (now (t .entry)) .transitionBins)) (now (lens .entry)))))) × (now (hits .exit) ≡ put 0 (hitPlaces (tableOf (now (t .entry))) (now (sample .entry)) (runStretches (take (length (tableOf (now (t .entry)) .transitionBins)) (now (lens .entry))))) (now (hits .entry))) ⌝ }
 {
-    let l = layout_of(t);
-    if l.point_count <= 4 {
+    let n = point_count(t);
+    if n <= 4 {
         return find_small(hits, t, sample, readings, lens, plan, lists);
     }
     find_largest(hits, t, sample, readings, lens, plan, lists)

@@ -12,13 +12,11 @@ use borrow.Author.Tests.{ltb-true, ltb-false}
 use borrow.Rule.Slice.PartMut.{putMid}
 use Rattle.model.specs.Table.{Table}
 use Rattle.model.specs.Sampling.{reading}
-use Rattle.model.specs.Format.{accepted, tableOf}
 use Rattle.model.specs.Raw.{recordsPlace}
 use Rattle.model.specs.Register.{pointTotal}
 use Rattle.model.proofs.Lists.{getD-row}
-use Rattle.model.proofs.RawExact.{many-points}
-use Rattle.layout.specs.Places.{layoutOf}
-use Rattle.layout.specs.declared.Layout.{Layout}
+use Rattle.layout.specs.Places.{layoutOf, binSectionsOf}
+use Rattle.layout.specs.declared.BinSections.{BinSections}
 use Rattle.arrays.specs.Put.{put}
 use Rattle.arrays.specs.Flat.{covers, Origins, readingCode, readingCodes, Readings}
 use Rattle.arrays.proofs.PutLaws.{part-back, put-zero, put-put, put-same, put-cons, put-in, put-before, part-put, drop-put, length-put}
@@ -54,14 +52,9 @@ code-at t w a p e h =
     sym (getD-take (pointTotal t) a p 0 h) ∙ ap (λ (x : List ℕ). getD x p 0) (e .codes)
     ∙ getD-row (λ q. readingCode (reading t w q)) 0 (pointTotal t) p 0 h ∙ ap (λ (q : ℕ). readingCode (reading t w q)) (let z : 0 + p ≡ p = omega arith in z)
 
-module _ (s : List ℕ) (l : Layout) (e : l ≡ layoutOf s) where
-  pub count-points : accepted s ≡ true → l .«point_count» ≡ pointTotal (tableOf s)
-  unfolding layoutOf
-  count-points ok = ap (λ (x : Layout). x .«point_count») e ∙ sym (many-points s ok)
-
-  pub bins-place : l .bins ≡ recordsPlace s 1
-  unfolding layoutOf
-  bins-place = ap (λ (x : Layout). x .bins) e
+pub bins-place : (s : List ℕ) (l : BinSections) → l ≡ binSectionsOf s → l .bins ≡ recordsPlace s 1
+unfolding layoutOf
+bins-place s l e = ap (λ (x : BinSections). x .bins) e
 
 -- ---- its row
 

@@ -2,7 +2,8 @@
 use crate::PointReading;
 use crate::put_found;
 use arrays::element;
-use layout::layout_of;
+use layout::bin_sections;
+use layout::point_count;
 use values::points::lowest_at;
 ghost use mathlib.Core.Path.{_≡_};
 ghost use mathlib.Core.Bool.{true};
@@ -87,11 +88,11 @@ pub fn find_all(
     requires { ⌜ ValuesPlan (tableOf (now t)) (now plan) (now lists) × Origins (tableOf (now t)) (drop 64 (now lists)) × (64 + 256 * pointTotal (tableOf (now t)) ≤ length (now lists)) × (257 * pointTotal (tableOf (now t)) ≤ length (now found)) ⌝ }
     ensures { λ _. ⌜ Found (tableOf (now (t .entry))) (now (sample .entry)) (now (found .exit)) × (length (now (found .exit)) ≡ length (now (found .entry))) ⌝ }
 {
-    let l = layout_of(t);
-    let n = l.point_count;
+    let l = bin_sections(t);
+    let n = point_count(t);
     let mut p = 0;
     while p < n {
-        let low = lowest_at(t, l.points + 11 * p);
+        let low = lowest_at(t, 2 + 11 * p);
         let r = PointReading {
             point: p,
             code: readings[p],

@@ -1,6 +1,6 @@
 // Which cover bins of a point a sample hits, from the point's rows and excluded spans. A part is a cover bin after expansion, or an auto bin.
 use arrays::element;
-use ranges::next::least;
+use ranges::next::capped;
 use ranges::next::less;
 use spans::lookup::inside;
 use values::fields::guard_true;
@@ -65,7 +65,7 @@ fn part(rows: &[u64], at: usize, v: u64) -> u64
     let first = rows[at + 4];
     let last = rows[at + 5];
     let share = rows[at + 6];
-    first + least((before + d) / share, last)
+    first + capped(before + d, share, last)
 }
 
 // The guard of the value bin holds that part k comes of; the value bins stand from bins on.

@@ -1,16 +1,20 @@
 -- A section stands where the records of the one before it end.
 -- Assumes nothing.
 use Prim.Native.Nat.{ℕ, suc, _+_, _*_, _≤_}
-use mathlib.Core.Path.{_≡_, refl, ap, _∙_}
+use mathlib.Core.Path.{_≡_, refl, sym, ap, _∙_}
+use mathlib.Core.Bool.{true}
 use mathlib.Core.List.{List}
 use native.Mathlib.Nat.{mul-le-mul}
 use native.Mathlib.Omega.{arith}
 use lib.ListN.{getD}
-use Rattle.model.specs.Format.{recordSizes}
+use Rattle.model.specs.Format.{recordSizes, u16, accepted, tableOf}
+use Rattle.model.specs.Register.{pointTotal}
 use Rattle.model.specs.Raw.{countPlace, recordCount, recordsPlace}
-use Rattle.layout.specs.Places.{sectionFrom, sectionOf, Near, Small, layoutOf}
+use Rattle.model.proofs.RawExact.{many-points}
+use Rattle.layout.specs.Places.{sectionFrom, sectionOf, Near, Small, SmallBins, layoutOf, binSectionsOf}
 use Rattle.layout.specs.declared.Section.{Section}
 use Rattle.layout.specs.declared.Layout.{Layout}
+use Rattle.layout.specs.declared.BinSections.{BinSections}
 
 pub product-small : (a b : ℕ) → a ≤ 65535 → b ≤ 20 → a * b ≤ 1310700
 product-small a b h k = mul-le-mul h k
@@ -22,6 +26,45 @@ first-section s = refl
 pub next-section : (s : List ℕ) (k : ℕ) (b r : Section) → b ≡ sectionOf s k → r ≡ sectionFrom s (b .at + b .count * getD recordSizes k 0) → r ≡ sectionOf s (suc k)
 unfolding countPlace recordCount recordsPlace
 next-section s k b r e h = h ∙ ap (λ (x : Section). sectionFrom s (x .at + x .count * getD recordSizes k 0)) e
+
+-- the first section begins the table
+pub points-first : (s : List ℕ) → layoutOf s .points ≡ 2
+unfolding layoutOf countPlace recordsPlace
+points-first s = refl
+
+pub point-count-first : (s : List ℕ) → layoutOf s .«point_count» ≡ u16 s 0
+unfolding layoutOf countPlace recordCount
+point-count-first s = refl
+
+pub points-total : (s : List ℕ) → accepted s ≡ true → (n : ℕ) → n ≡ layoutOf s .«point_count» → n ≡ pointTotal (tableOf s)
+unfolding layoutOf
+points-total s ok n e = e ∙ sym (many-points s ok)
+
+-- two sections
+abbrev pub binsWith : Section → Section → BinSections
+binsWith b c = record {
+  bins = b .at;
+  «bin_count» = b .count;
+  ranges = c .at;
+  «range_count» = c .count;
+}
+
+module _ {s : List ℕ} {a b c : Section} (na : Near s 0 a)
+    (nb : Near s (a .at + a .count * 11) b)
+    (nc : Near s (b .at + b .count * 8) c) where
+  bins-laid-out : binsWith b c ≡ binSectionsOf s
+  unfolding layoutOf
+  bins-laid-out =
+      let ea : a ≡ sectionOf s 0 = na .is ∙ first-section s in
+      let eb : b ≡ sectionOf s 1 = next-section s 0 a b ea (nb .is) in
+      let ec : c ≡ sectionOf s 2 = next-section s 1 b c eb (nc .is) in
+      rw (eb, ec)
+
+  bins-laid-small : SmallBins (binsWith b c)
+  bins-laid-small = record { bins = omega arith; bin-count = omega arith; ranges = omega arith; range-count = omega arith }
+
+  pub bins-laid : (binsWith b c ≡ binSectionsOf s) × SmallBins (binsWith b c)
+  bins-laid = (bins-laid-out, bins-laid-small)
 
 -- the ten sections, each after the one before it
 abbrev pub layoutWith : Section → Section → Section → Section → Section → Section → Section → Section → Section → Section → Layout

@@ -7,6 +7,7 @@ use Rattle.model.specs.Format.{u16}
 use Rattle.model.specs.Raw.{recordCount, recordsPlace}
 use Rattle.layout.specs.declared.Section.{Section}
 use Rattle.layout.specs.declared.Layout.{Layout}
+use Rattle.layout.specs.declared.BinSections.{BinSections}
 
 -- the section whose count stands at `place`
 abbrev pub sectionFrom : List ℕ → ℕ → Section
@@ -45,6 +46,15 @@ layoutOf s = record {
   «token_count» = recordCount s 9;
 }
 
+-- of these, the value bins and their ranges
+abbrev pub binSectionsOf : List ℕ → BinSections
+binSectionsOf s = record {
+  bins = layoutOf s .bins;
+  «bin_count» = layoutOf s .«bin_count»;
+  ranges = layoutOf s .ranges;
+  «range_count» = layoutOf s .«range_count»;
+}
+
 -- every place is below 2^24, every count below 2^16
 pub record Small (l : Layout) : Type 0 where
   pub points : l .points < 16777216
@@ -67,3 +77,9 @@ pub record Small (l : Layout) : Type 0 where
   pub cross-bin-count : l .«cross_bin_count» < 65536
   pub tokens : l .tokens < 16777216
   pub token-count : l .«token_count» < 65536
+
+pub record SmallBins (l : BinSections) : Type 0 where
+  pub bins : l .bins < 16777216
+  pub bin-count : l .«bin_count» < 65536
+  pub ranges : l .ranges < 16777216
+  pub range-count : l .«range_count» < 65536

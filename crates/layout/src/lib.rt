@@ -1,8 +1,8 @@
 // Where the records of each section stand, and how many there are. Past the table's end every byte reads as 0, so that any bytes have a layout.
 use words::bytes::read2;
 ghost use mathlib.Core.Path.{_≡_};
-ghost use Prim.Native.Nat.{_+_, _*_, _≤_};
-ghost use Rattle.layout.specs.Places.{layoutOf, Near, Small};
+ghost use Prim.Native.Nat.{_+_, _*_, _≤_, _<_};
+ghost use Rattle.layout.specs.Places.{layoutOf, binSectionsOf, Near, Small, SmallBins};
 
 pub struct Section {
     pub at: usize,
@@ -32,6 +32,14 @@ pub struct Layout {
     pub token_count: usize,
 }
 
+// The value bins and their ranges.
+pub struct BinSections {
+    pub bins: usize,
+    pub bin_count: usize,
+    pub ranges: usize,
+    pub range_count: usize,
+}
+
 // The section whose count stands at place.
 fn section_at(t: &[u8], place: usize) -> Section
     requires { ⌜ place ≤ 100000000 ⌝ }
@@ -50,6 +58,28 @@ fn next(t: &[u8], before: Section, size: usize) -> Section
     ensures { λ r. ⌜ Near (now (t .entry)) (before .at + before .count * size) r ⌝ }
 {
     section_at(t, before.at + before.count * size)
+}
+
+pub fn point_count(t: &[u8]) -> usize
+    ensures { λ r. ⌜ r ≡ layoutOf (now (t .entry)) .«point_count» ⌝ }
+    ensures { λ r. ⌜ r < 65536 ⌝ }
+{
+    read2(t, 0) as usize
+}
+
+pub fn bin_sections(t: &[u8]) -> BinSections
+    ensures { λ r. ⌜ r ≡ binSectionsOf (now (t .entry)) ⌝ }
+    ensures { λ r. ⌜ SmallBins r ⌝ }
+{
+    let a = section_at(t, 0);
+    let b = next(t, a, 11);
+    let c = next(t, b, 8);
+    BinSections {
+        bins: b.at,
+        bin_count: b.count,
+        ranges: c.at,
+        range_count: c.count,
+    }
 }
 
 pub fn layout_of(t: &[u8]) -> Layout

@@ -14,8 +14,8 @@ use Rattle.model.specs.Raw.{recordCount}
 use Rattle.model.specs.Register.{pointTotal, counterTotal}
 use Rattle.model.proofs.Limits.{covers-fewer}
 use Rattle.arrays.specs.Flat.{covers, kindOf, allPointCounters, allCrossCounters}
-use Rattle.layout.specs.Places.{layoutOf}
-use Rattle.layout.specs.declared.Layout.{Layout}
+use Rattle.layout.specs.Places.{layoutOf, binSectionsOf}
+use Rattle.layout.specs.declared.BinSections.{BinSections}
 use Rattle.places.specs.Places.{ofKind, illegalPlaces}
 use Rattle.places.proofs.PlaceLaws.{places-few}
 use Rattle.pieces.specs.Plan.{planNeed}
@@ -52,6 +52,6 @@ module _ (s : List ℕ) (ok : accepted s ≡ true) where
   pub lists-most : listsNeed (tableOf s) ≤ 98 + 514 * pointTotal (tableOf s) + counterTotal (tableOf s) + 8192
   lists-most = omega (arith, illegals-most (tableOf s), marks-few s ok)
 
-  pub ranges-count : (l : Layout) → l ≡ layoutOf s → l .«range_count» ≡ recordCount s 2
+  pub ranges-count : (l : BinSections) → l ≡ binSectionsOf s → l .«range_count» ≡ recordCount s 2
   unfolding layoutOf
-  ranges-count l e = ap (λ (x : Layout). x .«range_count») e
+  ranges-count l e = ap (λ (x : BinSections). x .«range_count») e

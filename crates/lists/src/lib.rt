@@ -71,17 +71,44 @@ fn put_first(plan: &mut [u64], first: &mut [u16], t: &[u8])
     put_origins(&mut first[64..], t);
 }
 
-// The plan and all lists. kinds and x are the table's.
+// The plan and all lists. kinds and x are the table's, first is scratch.
+fn put_all(plan: &mut [u64], lists: &mut [u16], first: &mut [u16], t: &[u8], kinds: &[u8], x: Index)
+    requires { ⌜ (accepted (now t) ≡ true) × Indexed (tableOf (now t)) x × Labelled (tableOf (now t)) (now kinds) × (planNeed (tableOf (now t)) ≤ length (now plan)) × (listsNeed (tableOf (now t)) ≤ length (now lists)) × (placesAt (pointTotal (tableOf (now t))) ≤ length (now first)) ⌝ }
+    ensures { λ _. ⌜ Planned (tableOf (now (t .entry))) (now (plan .exit)) (now (lists .exit)) × (length (now (plan .exit)) ≡ length (now (plan .entry))) × (length (now (lists .exit)) ≡ length (now (lists .entry))) ⌝ }
+{
+    let counts = x.counts;
+    put_first(plan, first, t);
+    copy(lists, first, 64 + 256 * x.points);
+    let c = put_lists(lists, t, kinds, x);
+    mark_all(&mut lists[c + 16..], t, &counts, plan, first);
+}
+
+// Size classes: a table of few points does not pay for the clearing of a large array.
+fn put_small(plan: &mut [u64], lists: &mut [u16], t: &[u8], kinds: &[u8], x: Index)
+    requires { ⌜ (accepted (now t) ≡ true) × Indexed (tableOf (now t)) x × Labelled (tableOf (now t)) (now kinds) × (planNeed (tableOf (now t)) ≤ length (now plan)) × (listsNeed (tableOf (now t)) ≤ length (now lists)) × (pointTotal (tableOf (now t)) ≤ 4) ⌝ }
+    ensures { λ _. ⌜ Planned (tableOf (now (t .entry))) (now (plan .exit)) (now (lists .exit)) × (length (now (plan .exit)) ≡ length (now (plan .entry))) × (length (now (lists .exit)) ≡ length (now (lists .entry))) ⌝ }
+{
+    let mut first = [0u16; 1088];
+    put_all(plan, lists, &mut first, t, kinds, x);
+}
+
+fn put_largest(plan: &mut [u64], lists: &mut [u16], t: &[u8], kinds: &[u8], x: Index)
+    requires { ⌜ (accepted (now t) ≡ true) × Indexed (tableOf (now t)) x × Labelled (tableOf (now t)) (now kinds) × (planNeed (tableOf (now t)) ≤ length (now plan)) × (listsNeed (tableOf (now t)) ≤ length (now lists)) ⌝ }
+    ensures { λ _. ⌜ Planned (tableOf (now (t .entry))) (now (plan .exit)) (now (lists .exit)) × (length (now (plan .exit)) ≡ length (now (plan .entry))) × (length (now (lists .exit)) ≡ length (now (lists .entry))) ⌝ }
+{
+    let mut first = [0u16; 4160];
+    put_all(plan, lists, &mut first, t, kinds, x);
+}
+
 fn put_planned(plan: &mut [u64], lists: &mut [u16], t: &[u8], kinds: &[u8], x: Index)
     requires { ⌜ (accepted (now t) ≡ true) × Indexed (tableOf (now t)) x × Labelled (tableOf (now t)) (now kinds) × (planNeed (tableOf (now t)) ≤ length (now plan)) × (listsNeed (tableOf (now t)) ≤ length (now lists)) ⌝ }
     ensures { λ _. ⌜ Planned (tableOf (now (t .entry))) (now (plan .exit)) (now (lists .exit)) × (length (now (plan .exit)) ≡ length (now (plan .entry))) × (length (now (lists .exit)) ≡ length (now (lists .entry))) ⌝ }
 {
-    let counts = x.counts;
-    let mut first = [0u16; 4160];
-    put_first(plan, &mut first, t);
-    copy(lists, &first, 64 + 256 * x.points);
-    let c = put_lists(lists, t, kinds, x);
-    mark_all(&mut lists[c + 16..], t, &counts, plan, &first);
+    if x.points <= 4 {
+        put_small(plan, lists, t, kinds, x);
+        return;
+    }
+    put_largest(plan, lists, t, kinds, x);
 }
 
 // The same, and the number of counters.

@@ -1,5 +1,5 @@
 // The places of each point's cover bins and plain bins.
-use layout::layout_of;
+use layout::point_count;
 use places::put_of_kind;
 ghost use mathlib.Core.Path.{_≡_};
 ghost use mathlib.Core.Bool.{true};
@@ -30,8 +30,7 @@ pub fn put_place_rows(rows: &mut [u16], t: &[u8], kinds: &[u8], starts: &[u16])
     requires { ⌜ (Kinded (tableOf (now t)) (now kinds)) × (take (pointTotal (tableOf (now t)) + 1) (now starts) ≡ pointStarts (tableOf (now t))) ⌝ }
     ensures { λ _. ⌜ PlaceRows (tableOf (now (t .entry))) (now (rows .exit)) × (length (now (rows .exit)) ≡ length (now (rows .entry))) ⌝ }
 {
-    let l = layout_of(t);
-    let n = l.point_count;
+    let n = point_count(t);
     let mut p: usize = 0;
     while p < n {
         let from = starts[p] as usize;

@@ -20,8 +20,8 @@ use Rattle.arrays.specs.Put.{put}
 use Rattle.arrays.specs.Flat.{covers}
 use Rattle.arrays.proofs.PutLaws.{put-nil, put-cons, put-in, put-before, length-put, put-next, part-put}
 use Rattle.ranges.specs.Taken.{excludedAt}
-use Rattle.layout.specs.Places.{layoutOf}
-use Rattle.layout.specs.declared.Layout.{Layout}
+use Rattle.layout.specs.Places.{layoutOf, binSectionsOf}
+use Rattle.layout.specs.declared.BinSections.{BinSections}
 use Rattle.spans.specs.Spans.{Settled}
 use Rattle.spans.specs.Collected.{fitsFrom, wordsFrom, Collectable}
 use Rattle.spans.specs.Part.{OwnPart}
@@ -207,9 +207,9 @@ copy-end at i words l whole h e = sym (ap (λ (xs : List ℕ). put (at + i) xs l
 
 -- ---- by the layout
 
-pub counts-at : (s : List ℕ) (l : Layout) → l ≡ layoutOf s → (l .«range_count» ≡ recordCount s 2) × (l .«bin_count» ≡ recordCount s 1)
+pub counts-at : (s : List ℕ) (l : BinSections) → l ≡ binSectionsOf s → (l .«range_count» ≡ recordCount s 2) × (l .«bin_count» ≡ recordCount s 1)
 unfolding layoutOf
-counts-at s l el = (ap (λ (x : Layout). x .«range_count») el, ap (λ (x : Layout). x .«bin_count») el)
+counts-at s l el = (ap (λ (x : BinSections). x .«range_count») el, ap (λ (x : BinSections). x .«bin_count») el)
 
 -- a point's spans, from a part of the value bins that has all of the point's
 

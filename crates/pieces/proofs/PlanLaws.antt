@@ -15,7 +15,7 @@ use Rattle.model.specs.Values.{lowest, highest, inType}
 use Rattle.model.specs.Counters.{CoverBin, noCoverBin, pointCounters, pointAt, pointOf, meets, hasValue}
 use Rattle.model.specs.Format.{pointRecord, accepted, tableOf, byte, u16}
 use Rattle.model.specs.Register.{pointTotal}
-use Rattle.model.specs.Raw.{rows, countPlace, recordCount}
+use Rattle.model.specs.Raw.{rows, countPlace, recordCount, recordsPlace}
 use Rattle.model.proofs.Booleans.{and-left, and-right}
 use Rattle.model.proofs.Readers.{All}
 use Rattle.model.proofs.Lists.{map-all, getD-row, getD-map}
@@ -24,8 +24,6 @@ use Rattle.model.proofs.RawExact.{many-points}
 use Rattle.model.proofs.Sections.{accepted-decodes}
 use Rattle.model.proofs.Selects.{own-covers}
 use Rattle.ranges.specs.Types.{Wide, powerOf}
-use Rattle.layout.specs.Places.{layoutOf}
-use Rattle.layout.specs.declared.Layout.{Layout}
 use Rattle.arrays.specs.Put.{put}
 use Rattle.arrays.proofs.PutLaws.{put-in, put-before}
 use Rattle.arrays.specs.Flat.{covers, coverCounts}
@@ -70,14 +68,14 @@ part-pieces w mid to h k =
 
 -- ---- a point's type
 
-module _ (s : List ℕ) (ok : accepted s ≡ true) (p : ℕ) (inside : p < pointTotal (tableOf s)) (l : Layout) (el : l ≡ layoutOf s) where
-  pub point-is : pointAt (tableOf s) p ≡ pointRecord s (l .points + 11 * p)
-  unfolding layoutOf
-  point-is = point-raw s (tableOf s) (accepted-decodes s ok) p inside ∙ ap (λ (x : Layout). pointRecord s (x .points + 11 * p)) (sym el)
+module _ (s : List ℕ) (ok : accepted s ≡ true) (p : ℕ) (inside : p < pointTotal (tableOf s)) where
+  pub point-is : pointAt (tableOf s) p ≡ pointRecord s (2 + 11 * p)
+  unfolding recordsPlace countPlace
+  point-is = point-raw s (tableOf s) (accepted-decodes s ok) p inside
 
-  pub wide-at : Wide s (l .points + 11 * p)
-  unfolding layoutOf
-  wide-at = subst (λ (x : Layout). Wide s (x .points + 11 * p)) (sym el) (wide s (tableOf s) (accepted-decodes s ok) p inside)
+  pub wide-at : Wide s (2 + 11 * p)
+  unfolding recordsPlace countPlace
+  wide-at = wide s (tableOf s) (accepted-decodes s ok) p inside
 
 pub high-is : (s : List ℕ) (point low width power : ℕ) → low ≡ lowest (pointRecord s point) → width ≡ byte s point → power ≡ powerOf width → low + power - 1 ≡ highest (pointRecord s point)
 unfolding powerOf

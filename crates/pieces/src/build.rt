@@ -2,7 +2,7 @@
 use crate::cuts::put_pieces;
 use crate::plan::limits_of;
 use crate::rows::put_plan_rows;
-use layout::layout_of;
+use layout::bin_sections;
 use parts::points::Built;
 use parts::points::put_rows;
 use spans::collects::Bins;
@@ -183,7 +183,7 @@ pub fn put_plan(plan: &mut [u64], bounds: &mut [u16], t: &[u8])
     requires { ⌜ (accepted (now t) ≡ true) × (planNeed (tableOf (now t)) ≤ length (now plan)) × (49 ≤ length (now bounds)) ⌝ }
     ensures { λ _. ⌜ ValuesPlan (tableOf (now (t .entry))) (now (plan .exit)) (now (bounds .exit)) × (length (now (plan .exit)) ≡ length (now (plan .entry))) × (length (now (bounds .exit)) ≡ length (now (bounds .entry))) ⌝ }
 {
-    let l = layout_of(t);
+    let l = bin_sections(t);
     let n = larger(l.range_count, l.bin_count);
     if n <= 64 {
         put_small(plan, bounds, t);

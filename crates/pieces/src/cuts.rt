@@ -1,6 +1,6 @@
 // The pieces of a point, cut from its rows.
 use parts::rows::word;
-use ranges::next::least;
+use ranges::next::capped;
 use ranges::next::less;
 use spans::lookup::free_value;
 ghost use mathlib.Core.Path.{_≡_};
@@ -132,11 +132,11 @@ fn put_row(out: &mut [u64], at: usize, spans: &[u64], low: u64, r: Row) -> usize
     requires { ⌜ at + length (pieceWords (rowPieces (freeValue (now spans) low) (rowOf (r .kind) (r .low) (r .high) (r .before) (r .bin) (r .first) (r .last) (r .share)))) ≤ length (now out) ⌝ }
     ensures { λ e. ⌜ (e ≡ at + length (pieceWords (rowPieces (freeValue (now (spans .entry)) low) (rowOf (r .kind) (r .low) (r .high) (r .before) (r .bin) (r .first) (r .last) (r .share))))) × (now (out .exit) ≡ put at (pieceWords (rowPieces (freeValue (now (spans .entry)) low) (rowOf (r .kind) (r .low) (r .high) (r .before) (r .bin) (r .first) (r .last) (r .share)))) (now (out .entry))) ⌝ }
 {
-    let from = least(r.before / r.share, r.last);
+    let from = capped(r.before, r.share, r.last);
     if r.kind != 0 {
         return put_piece(out, at, r.low, r.high, r.first + from + 65536);
     }
-    let top = least((r.before + (r.high - r.low)) / r.share, r.last);
+    let top = capped(r.before + (r.high - r.low), r.share, r.last);
     let c = Cuts {
         lo: r.low,
         hi: r.high,

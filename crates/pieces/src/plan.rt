@@ -2,7 +2,6 @@
 use crate::met::Ask;
 use crate::met::put_met;
 use arrays::element;
-use layout::layout_of;
 use values::points::lowest_at;
 use words::bytes::byte;
 use words::bytes::read2;
@@ -29,8 +28,7 @@ pub fn limits_of(t: &[u8], p: usize) -> Limits
     requires { ⌜ (accepted (now t) ≡ true) × (p < pointTotal (tableOf (now t))) ⌝ }
     ensures { λ r. ⌜ (r .low ≡ lowest (pointAt (tableOf (now (t .entry))) p)) × (r .high ≡ highest (pointAt (tableOf (now (t .entry))) p)) × (r .low ≤ r .high) × (r .high < 8589934592) ⌝ }
 {
-    let l = layout_of(t);
-    let point = l.points + 11 * p;
+    let point = 2 + 11 * p;
     let low = lowest_at(t, point);
     let all = ranges::power(byte(t, point));
     Limits {

@@ -18,12 +18,12 @@ use Rattle.model.specs.Register.{pointTotal, inWidths}
 use Rattle.model.proofs.Sections.{accepted-layout, accepted-decodes}
 use Rattle.model.proofs.AccessTransitions.{transitions-access}
 use Rattle.model.proofs.Lists.{from-step, from-end, getD-row}
-use Rattle.model.proofs.RawExact.{many-points, few-points}
+use Rattle.model.proofs.RawExact.{few-points}
 use Rattle.arrays.specs.Flat.{allPointCounters, readingCode, readingCodes}
 use Rattle.values.proofs.PointExact.{few-counters}
 use Rattle.layout.specs.declared.Layout.{Layout}
 use Rattle.layout.specs.Places.{layoutOf}
-use Rattle.points.proofs.ReadingLaws.{points-counted}
+use Rattle.layout.proofs.PlaceLaws.{points-total}
 
 -- ---- one point
 
@@ -59,7 +59,7 @@ code-read t w a p e h = sym (getD-take (pointTotal t) a p 0 h) ∙ ap (λ (x : L
 
 module _ (s : List ℕ) (ok : accepted s ≡ true) where
   pub point-number : (l : Layout) → l ≡ layoutOf s → (l .«point_count» ≡ pointTotal (tableOf s)) × (pointTotal (tableOf s) ≤ 16)
-  point-number l e = (points-counted s l e ∙ sym (many-points s ok), few-points s ok)
+  point-number l e = (points-total s ok (l .«point_count») (ap (λ (x : Layout). x .«point_count») e), few-points s ok)
 
   pub few-here : (p : ℕ) → p < pointTotal (tableOf s) → length (pointCounters (tableOf s) p) ≤ 256
   few-here p h = few-counters s (tableOf s) (accepted-decodes s ok) p h

@@ -1,6 +1,6 @@
 -- Laws of the readings by places, and that they are the model's.
 -- Assumes nothing.
-use mathlib.Core.Path.{_≡_, sym, ap, ap₂, _∙_, subst}
+use mathlib.Core.Path.{_≡_, sym, ap, _∙_, subst}
 use mathlib.Core.Bool.{Bool, true, false, not, _&&_}
 use mathlib.Core.List.{List, _∷_, map}
 use Prim.Native.Nat.{ℕ, _+_, _-_, _*_, _^_, _≤_, _<_}
@@ -14,7 +14,7 @@ use Rattle.model.specs.Values.{readValue}
 use Rattle.model.specs.Counters.{pointAt}
 use Rattle.model.specs.Sampling.{valueWord, unknownWord, guardTrue, reading}
 use Rattle.model.specs.Format.{byte, pointRecord, guardFrom, accepted, tableOf}
-use Rattle.model.specs.Raw.{recordCount, recordsPlace}
+use Rattle.model.specs.Raw.{recordCount, recordsPlace, countPlace}
 use Rattle.model.specs.Register.{pointTotal, inWidths}
 use Rattle.model.proofs.Booleans.{and-left}
 use Rattle.model.proofs.Limits.{all-from}
@@ -28,18 +28,7 @@ use Rattle.arrays.proofs.PutLaws.{put-nil, put-cons}
 use Rattle.values.proofs.PointExact.{point-raw}
 use Rattle.values.proofs.Ready.{wide}
 use Rattle.points.specs.Readings.{readingOf, codeAt, codesFrom, Read}
-use Rattle.layout.specs.declared.Layout.{Layout}
-use Rattle.layout.specs.Places.{layoutOf, Small}
-
--- the layout's places are those of the sections
-module _ (s : List ℕ) (l : Layout) (e : l ≡ layoutOf s) where
-  pub points-placed : l .points ≡ recordsPlace s 0
-  unfolding layoutOf
-  points-placed = ap (λ (x : Layout). x .points) e
-
-  pub points-counted : l .«point_count» ≡ recordCount s 0
-  unfolding layoutOf
-  points-counted = ap (λ (x : Layout). x .«point_count») e
+use Rattle.layout.specs.Places.{layoutOf}
 
 -- ---- one reading
 
@@ -106,12 +95,16 @@ module _ (s w : List ℕ) (ok : accepted s ≡ true) where
         subst (λ (x : Point). valueWord w p < 2 ^ x .width) (same-point p k) (value-in e p k);
   }
 
-  module _ (l : Layout) (e : l ≡ layoutOf s) where
-    pub read-ready : Small l → inWidths (tableOf s) w ≡ true → (l .points < 100000000) × (l .«point_count» ≤ 16) × Read s w (l .points) (l .«point_count»)
-    read-ready small h =
-        let p = points-placed s l e in
-        let n = points-counted s l e in
-        (omega (arith, small .points), omega (arith, many-points s ok, few-points s ok), rw (p, n) (all-read h))
+  -- the points' records are the first of the table
+  module _ (n : ℕ) (e : n ≡ layoutOf s .«point_count») where
+    counted : n ≡ recordCount s 0
+    unfolding layoutOf
+    counted = e
 
-    pub read-codes : codesFrom s w (l .points) 0 (l .«point_count») ≡ readingCodes (tableOf s) w
-    read-codes = ap₂ (λ (a n : ℕ). codesFrom s w a 0 n) (points-placed s l e) (points-counted s l e) ∙ sym codes-exact
+    pub read-ready : inWidths (tableOf s) w ≡ true → (n ≤ 16) × Read s w 2 n
+    unfolding recordsPlace countPlace
+    read-ready h = (omega (arith, many-points s ok, few-points s ok, counted), subst (Read s w 2) (sym counted) (all-read h))
+
+    pub read-codes : codesFrom s w 2 0 n ≡ readingCodes (tableOf s) w
+    unfolding recordsPlace countPlace
+    read-codes = ap (codesFrom s w 2 0) counted ∙ sym codes-exact

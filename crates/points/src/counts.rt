@@ -1,5 +1,5 @@
 // How many cover bins each point has, by the kinds of its counters.
-use layout::layout_of;
+use layout::point_count;
 ghost use mathlib.Core.Path.{_≡_};
 ghost use mathlib.Core.Bool.{true};
 ghost use Prim.Native.Nat.{_<_, _≤_, _+_};
@@ -58,6 +58,6 @@ pub fn put_counts(counts: &mut [u16], t: &[u8], kinds: &[u8], starts: &[u16])
     requires { ⌜ take (pointTotal (tableOf (now t)) + 1) (now starts) ≡ pointStarts (tableOf (now t)) ⌝ }
     ensures { λ _. ⌜ now (counts .exit) ≡ put 0 (coverCounts (tableOf (now (t .entry)))) (now (counts .entry)) ⌝ }
 {
-    let l = layout_of(t);
-    put_each(counts, t, kinds, starts, l.point_count)
+    let n = point_count(t);
+    put_each(counts, t, kinds, starts, n)
 }

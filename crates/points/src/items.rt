@@ -1,6 +1,6 @@
 // The item of each counter of the points: its point.
 use arrays::put_same;
-use layout::layout_of;
+use layout::point_count;
 ghost use mathlib.Core.Path.{_≡_};
 ghost use mathlib.Core.Bool.{true};
 ghost use Prim.Native.Nat.{_≤_, _+_, _*_};
@@ -32,6 +32,6 @@ pub fn put_point_items(items: &mut [u8], t: &[u8], starts: &[u16]) -> usize
     ensures { λ r. ⌜ r ≡ length (allPointCounters (tableOf (now (t .entry)))) ⌝ }
     ensures { λ _. ⌜ now (items .exit) ≡ put 0 (itemsOf (tableOf (now (t .entry))) (allPointCounters (tableOf (now (t .entry))))) (now (items .entry)) ⌝ }
 {
-    let l = layout_of(t);
-    put_each(items, t, starts, l.point_count)
+    let n = point_count(t);
+    put_each(items, t, starts, n)
 }

@@ -1,5 +1,5 @@
 // The reading of each point of a sample, as a number.
-use layout::layout_of;
+use layout::point_count;
 use values::fields::guard_true;
 use values::fields::word;
 use values::value::key_of;
@@ -59,8 +59,6 @@ pub fn read_all(readings: &mut [u64], t: &[u8], sample: &[u32])
     requires { ⌜ (accepted (now t) ≡ true) × (16 ≤ length (now readings)) × (length (now sample) ≡ 4 + 2 * pointTotal (tableOf (now t))) × (inWidths (tableOf (now t)) (now sample) ≡ true) ⌝ }
     ensures { λ _. ⌜ now (readings .exit) ≡ put 0 (readingCodes (tableOf (now (t .entry))) (now (sample .entry))) (now (readings .entry)) ⌝ }
 {
-    let l = layout_of(t);
-    let points = l.points;
-    let n = l.point_count;
-    put_readings(readings, t, points, n, sample);
+    let n = point_count(t);
+    put_readings(readings, t, 2, n, sample);
 }

@@ -1,6 +1,6 @@
 // From the cover bins of the points to their counters.
 use arrays::as_bit;
-use layout::layout_of;
+use layout::point_count;
 ghost use mathlib.Core.Path.{_≡_};
 ghost use mathlib.Core.Bool.{true};
 ghost use Prim.Native.Nat.{_<_, _≤_, _+_, _*_};
@@ -75,6 +75,6 @@ pub fn scatter(flags: &mut [u8], t: &[u8], kinds: &[u8], has: &[u8], starts: &[u
     ensures { λ r. ⌜ r ≡ length (allPointCounters (tableOf (now (t .entry)))) ⌝ }
     ensures { λ _. ⌜ now (flags .exit) ≡ put 0 (totalFlags (tableOf (now (t .entry))) (allPointCounters (tableOf (now (t .entry))))) (now (flags .entry)) ⌝ }
 {
-    let l = layout_of(t);
-    scatter_each(flags, t, kinds, has, starts, l.point_count)
+    let n = point_count(t);
+    scatter_each(flags, t, kinds, has, starts, n)
 }

@@ -3,7 +3,7 @@ use crate::value_at;
 use words::bytes::byte;
 use words::bytes::read8;
 ghost use mathlib.Core.Path.{_≡_};
-ghost use Prim.Native.Nat.{_+_, _-_, _≤_, min, max};
+ghost use Prim.Native.Nat.{_+_, _-_, _/_, _≤_, min, max};
 ghost use Rattle.model.specs.Table.{span, pattern};
 ghost use Rattle.model.specs.Format.{rangeRecord};
 ghost use Rattle.model.specs.Ranges.{patternFrom, nextInRange, nextIn};
@@ -13,6 +13,17 @@ pub fn least(a: u64, b: u64) -> u64
     ensures { λ r. ⌜ r ≡ min a b ⌝ }
 {
     if a < b { a } else { b }
+}
+
+// The quotient, at most last.
+pub fn capped(x: u64, share: u64, last: u64) -> u64
+    requires { ⌜ 1 ≤ share ⌝ }
+    ensures { λ r. ⌜ r ≡ min (x / share) last ⌝ }
+{
+    if last == 0 {
+        return 0;
+    }
+    least(x / share, last)
 }
 
 pub fn larger(a: u64, b: u64) -> u64

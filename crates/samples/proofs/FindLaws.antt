@@ -21,11 +21,10 @@ use Rattle.model.proofs.WellFormed.{WellFormed, well-formed}
 use Rattle.arrays.specs.Put.{put}
 use Rattle.arrays.specs.Flat.{hitFlags, readingCodes, Readings}
 use Rattle.layout.specs.Places.{layoutOf}
-use Rattle.layout.specs.declared.Layout.{Layout}
+use Rattle.layout.proofs.PlaceLaws.{points-total}
 use Rattle.places.specs.Places.{isSet, placesFrom, hitPlaces}
 use Rattle.places.proofs.PlaceLaws.{places-map}
 use Rattle.model.proofs.RunBits.{asBit-eqb}
-use Rattle.model.proofs.RawExact.{many-points}
 use Rattle.arrays.proofs.PutLaws.{part-put}
 use Rattle.samples.specs.Writes.{runsAfter, flagsAfter}
 use Rattle.arrays.proofs.PutLaws.{front-put}
@@ -41,10 +40,6 @@ pub places-flagged : (t : Table) (s : List ℕ) (m : Stretches) → hitPlaces t 
 unfolding hitPlaces hitFlags
 places-flagged t s m =
     sym (places-map isSet (λ c. asBit (hits t s m c)) 0 (counters t) ∙ ap (λ (f : Counter → Bool). placesFrom f 0 (counters t)) (fun-ext (λ c. asBit-eqb (hits t s m c))))
-
-pub points-count : (b : List ℕ) → accepted b ≡ true → (l : Layout) → l ≡ layoutOf b → l .«point_count» ≡ pointTotal (tableOf b)
-unfolding layoutOf
-points-count b ok l e = ap (λ (x : Layout). x .«point_count») e ∙ sym (many-points b ok)
 
 -- ---- an accepted table
 
@@ -89,5 +84,5 @@ module _ (b : List ℕ) (ok : accepted b ≡ true) where
         ap (λ (ls : List ℕ). hitPlaces (tableOf b) s (runStretches ls)) told ∙ places-flagged (tableOf b) s (runStretches (allLengths bins (runsAfter (tableOf b) s w)))
 
 -- where the sum of the words begins that follow the counts
-pub runs-at : (b : List ℕ) → accepted b ≡ true → (l : Layout) → l ≡ layoutOf b → (k : ℕ) → k ≡ counterTotal (tableOf b) → 2 + k + l .«point_count» ≡ 2 + counterTotal (tableOf b) + pointTotal (tableOf b)
-runs-at b ok l e k ek = ap₂ (λ (i j : ℕ). 2 + i + j) ek (points-count b ok l e)
+pub runs-at : (b : List ℕ) → accepted b ≡ true → (n : ℕ) → n ≡ layoutOf b .«point_count» → (k : ℕ) → k ≡ counterTotal (tableOf b) → 2 + k + n ≡ 2 + counterTotal (tableOf b) + pointTotal (tableOf b)
+runs-at b ok n e k ek = ap₂ (λ (i j : ℕ). 2 + i + j) ek (points-total b ok n e)

@@ -3,7 +3,7 @@ use crate::counts::raise_counts;
 use crate::listed::report_listed;
 use arrays::element;
 use engine::find_hits;
-use layout::layout_of;
+use layout::point_count;
 use points::readings::read_all;
 use runs::advance::advance_runs;
 use runs::lengths::put_lengths;
@@ -34,9 +34,9 @@ fn find(
     ensures { λ r. ⌜ (r ≡ length (placesFrom isSet 0 (flagsAfter (tableOf (now (t .entry))) (now (sample .entry)) (now (register .entry))))) × (now (hits .exit) ≡ put 0 (placesFrom isSet 0 (flagsAfter (tableOf (now (t .entry))) (now (sample .entry)) (now (register .entry)))) (now (hits .entry))) ⌝ }
     ensures { λ _. ⌜ now (readings .exit) ≡ put 0 (readingCodes (tableOf (now (t .entry))) (now (sample .entry))) (now (readings .entry)) ⌝ }
 {
-    let l = layout_of(t);
+    let n = point_count(t);
     let k = element(lists, 63) as usize;
-    let at = 2 + k + l.point_count;
+    let at = 2 + k + n;
     read_all(readings, t, sample);
     advance_runs(register, at, t, readings);
     let mut lens = [0u32; 64];
@@ -59,8 +59,7 @@ pub fn write_planned(
     ensures { λ _. ⌜ now (report .exit) ≡ sampledReport (tableOf (now (t .entry))) (now (sample .entry)) (now (register .entry)) (now (report .entry)) ⌝ }
 {
     let mut readings = [0u64; 16];
-    let l = layout_of(t);
-    let n = l.point_count;
+    let n = point_count(t);
     let k = element(lists, 63) as usize;
     let m = find(register, hits, &mut readings, t, sample, plan, lists);
     raise_counts(register, &hits[..m], &readings, k, n);

@@ -6,7 +6,7 @@ use crosses::all::put_crosses;
 use crosses::bins::Ask;
 use crosses::labels::put_cross_items;
 use crosses::labels::put_cross_kinds;
-use layout::layout_of;
+use layout::point_count;
 use points::counts::put_counts;
 use points::items::put_point_items;
 use points::kinds::put_point_kinds;
@@ -41,11 +41,11 @@ pub fn put_kinds(kinds: &mut [u8], t: &[u8]) -> Index
     let n = put_point_kinds(kinds, &mut starts, t);
     put_counts(&mut counts, t, kinds, &starts);
     let m = put_cross_kinds(kinds, n, t, &counts);
-    let l = layout_of(t);
+    let points = point_count(t);
     Index {
         starts: starts,
         counts: counts,
-        points: l.point_count,
+        points: points,
         counters: m,
     }
 }

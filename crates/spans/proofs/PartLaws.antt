@@ -13,8 +13,8 @@ use Rattle.model.specs.Format.{byte, u16}
 use Rattle.model.specs.Ranges.{rangesOf}
 use Rattle.model.specs.Raw.{binAt, binsAt, recordsPlace, recordCount}
 use Rattle.model.proofs.Booleans.{and-left, and-right}
-use Rattle.layout.specs.Places.{layoutOf}
-use Rattle.layout.specs.declared.Layout.{Layout}
+use Rattle.layout.specs.Places.{layoutOf, binSectionsOf}
+use Rattle.layout.specs.declared.BinSections.{BinSections}
 use Rattle.ranges.specs.Taken.{excludedAt}
 use Rattle.values.specs.Points.{isOwn, someOwn, hasAutoAt}
 use Rattle.spans.specs.Part.{Other, OthersFrom, OthersTo, rangesPast, PartOf, OwnPart}
@@ -80,14 +80,14 @@ part-between s p a r n b q m k o h rest =
         go false e = o .others₁ j (omega (arith, ltb-false j (o .skipped + m) e)) i
 
 -- in a table
-pub bins-few : (s : List ℕ) (l : Layout) → l ≡ layoutOf s → l .«bin_count» ≡ recordCount s 1
+pub bins-few : (s : List ℕ) (l : BinSections) → l ≡ binSectionsOf s → l .«bin_count» ≡ recordCount s 1
 unfolding layoutOf
-bins-few s l el = ap (λ (x : Layout). x .«bin_count») el
+bins-few s l el = ap (λ (x : BinSections). x .«bin_count») el
 
-pub table-part : (s : List ℕ) (p b q m k : ℕ) (l : Layout) → l ≡ layoutOf s → PartOf s p (l .bins) (l .ranges) (l .«bin_count») b q m → k ≤ m → OthersFrom s p b m k → OwnPart s p b q k
+pub table-part : (s : List ℕ) (p b q m k : ℕ) (l : BinSections) → l ≡ binSectionsOf s → PartOf s p (l .bins) (l .ranges) (l .«bin_count») b q m → k ≤ m → OthersFrom s p b m k → OwnPart s p b q k
 unfolding layoutOf
 table-part s p b q m k l el o h rest =
-    part-between s p (recordsPlace s 1) (recordsPlace s 2) (recordCount s 1) b q m k (subst (λ (x : Layout). PartOf s p (x .bins) (x .ranges) (x .«bin_count») b q m) el o) h rest
+    part-between s p (recordsPlace s 1) (recordsPlace s 2) (recordCount s 1) b q m k (subst (λ (x : BinSections). PartOf s p (x .bins) (x .ranges) (x .«bin_count») b q m) el o) h rest
 
 -- ---- a point's own bins
 

@@ -1,6 +1,6 @@
 // The part of a table's value bins from the first to the last of a point.
 use crate::collects::Bins;
-use layout::layout_of;
+use layout::bin_sections;
 use words::bytes::byte;
 use words::bytes::read2;
 ghost use mathlib.Core.Path.{_≡_};
@@ -58,7 +58,7 @@ pub fn own_part(t: &[u8], p: u8) -> Bins
     ensures { λ r. ⌜ OwnPart (now (t .entry)) p (r .bins) (r .ranges) (r .count) ⌝ }
     ensures { λ r. ⌜ (r .bins < 1000000000) × (r .ranges < 1000000000) × (r .count ≤ 512) ⌝ }
 {
-    let l = layout_of(t);
+    let l = bin_sections(t);
     let all = Bins {
         bins: l.bins,
         ranges: l.ranges,

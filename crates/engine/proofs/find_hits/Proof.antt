@@ -1,26 +1,21 @@
 use mathlib.Core.Path.{_≡_, _∙_}
 use native.Mathlib.Omega.{arith}
 use Rattle.model.specs.Format.{tableOf}
-use Rattle.found.proofs.AllLaws.{count-points}
+use Rattle.layout.proofs.PlaceLaws.{points-total}
 use borrow.Author.Needs.{needs}
 use Rattle.engine.proofs.find_hits.Statement.{statement}
 use Rattle.engine.proofs.find_hits.Tie as tie
-use Rattle.engine.proofs.find_hits.Reads as reads
-use Rattle.engine.proofs.find_hits.Lts as lts
-use Rattle.engine.proofs.find_largest.Reads as find-largest-reads
-use Rattle.engine.proofs.find_small.Reads as find-small-reads
-use Rattle.layout.proofs.layout_of.Reads as layout-of-reads
 
-layout-of-requires : tie.Need-layout-of-requires
-layout-of-requires c κs = search needs
+point-count-requires : tie.Need-point-count-requires
+point-count-requires c κs = search needs
 
 find-small-requires : tie.Need-find-small-requires
 find-small-requires c κs =
-    let a = c .before .before .before .before .before .before .before .before .before .before .before .args in
-    let p = c .before .before .before .before .before .before .before .before .before .before .before .pre in
+    let a = c .before .before .before .before .before .before .before .before .before .before .args in
+    let p = c .before .before .before .before .before .before .before .before .before .before .pre in
     let s = a .t .now in
-    let lay = c .before .before .before .layout-of in
-    let n = count-points s (lay .result) (lay .ensures .0) (p .0) in
+    let lay = c .before .before .point-count in
+    let n = points-total s (p .0) (lay .result) (lay .ensures .0) in
     (p .0, p .1, p .2, p .3, p .4, p .5, omega (arith, n, c .before .if1))
 
 same-length : tie.Need-same-length
@@ -42,7 +37,7 @@ pub find-hits-spec : {M : Type 1} → statement M
 find-hits-spec =
     tie.close
     (tie.spec
-    layout-of-requires
+    point-count-requires
     find-small-requires
     same-length
     returns

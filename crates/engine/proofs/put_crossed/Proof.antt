@@ -1,19 +1,14 @@
 use mathlib.Core.Path.{_≡_, _∙_}
 use native.Mathlib.Omega.{arith}
 use Rattle.model.specs.Format.{tableOf}
-use Rattle.found.proofs.AllLaws.{count-points}
+use Rattle.layout.proofs.PlaceLaws.{points-total}
 use Rattle.engine.proofs.EngineLaws.{counts-at, counts-part, marks-part}
 use borrow.Author.Needs.{needs}
 use Rattle.engine.proofs.put_crossed.Statement.{statement}
 use Rattle.engine.proofs.put_crossed.Tie as tie
-use Rattle.engine.proofs.put_crossed.Reads as reads
-use Rattle.engine.proofs.put_crossed.Lts as lts
-use Rattle.arrays.proofs.element.Reads as element-reads
-use Rattle.crosshits.proofs.all.put_cross_hits.Reads as put-cross-hits-reads
-use Rattle.layout.proofs.layout_of.Reads as layout-of-reads
 
-layout-of-requires : tie.Need-layout-of-requires
-layout-of-requires c κs = search needs
+point-count-requires : tie.Need-point-count-requires
+point-count-requires c κs = search needs
 
 mul-at : tie.Need-mul-at
 mul-at c = search needs
@@ -41,35 +36,35 @@ mul-put-cross-hits c = search needs
 
 sub-put-cross-hits : tie.Need-sub-put-cross-hits
 sub-put-cross-hits c =
-    let a = c .before .before .before .before .before .before .before .before .before .before .args in
-    let p = c .before .before .before .before .before .before .before .before .before .before .pre in
+    let a = c .before .before .before .before .before .before .before .before .before .args in
+    let p = c .before .before .before .before .before .before .before .before .before .pre in
     let s = a .t .now in
-    let lay = c .before .before .before .before .layout-of in
-    let n = count-points s (lay .result) (lay .ensures .0) (p .0 .0) in
-    omega (arith, p .0 .4, counts-at (tableOf s) (a .lists .now) (p .0 .2) (p .0 .4) (lay .result .«point_count») n (c .before .before .element .result) (c .before .before .element .ensures))
+    let lay = c .before .before .before .point-count in
+    let n = points-total s (p .0 .0) (lay .result) (lay .ensures .0) in
+    omega (arith, p .0 .4, counts-at (tableOf s) (a .lists .now) (p .0 .2) (p .0 .4) (lay .result) n (c .before .before .element .result) (c .before .before .element .ensures))
 
 part-put-cross-hits-start : tie.Need-part-put-cross-hits-start
 part-put-cross-hits-start c =
-    let a = c .before .before .before .before .before .before .before .before .before .before .args in
-    let p = c .before .before .before .before .before .before .before .before .before .before .pre in
+    let a = c .before .before .before .before .before .before .before .before .before .args in
+    let p = c .before .before .before .before .before .before .before .before .before .pre in
     let s = a .t .now in
-    let lay = c .before .before .before .before .layout-of in
-    let n = count-points s (lay .result) (lay .ensures .0) (p .0 .0) in
-    omega (arith, p .0 .4, counts-at (tableOf s) (a .lists .now) (p .0 .2) (p .0 .4) (lay .result .«point_count») n (c .before .before .element .result) (c .before .before .element .ensures))
+    let lay = c .before .before .before .point-count in
+    let n = points-total s (p .0 .0) (lay .result) (lay .ensures .0) in
+    omega (arith, p .0 .4, counts-at (tableOf s) (a .lists .now) (p .0 .2) (p .0 .4) (lay .result) n (c .before .before .element .result) (c .before .before .element .ensures))
 
 part-put-cross-hits-end : tie.Need-part-put-cross-hits-end
 part-put-cross-hits-end c = search needs
 
 put-cross-hits-requires : tie.Need-put-cross-hits-requires
 put-cross-hits-requires c κs =
-    let a = c .before .before .before .before .before .before .before .before .before .before .before .args in
-    let p = c .before .before .before .before .before .before .before .before .before .before .before .pre in
+    let a = c .before .before .before .before .before .before .before .before .before .before .args in
+    let p = c .before .before .before .before .before .before .before .before .before .before .pre in
     let s = a .t .now in
-    let lay = c .before .before .before .before .before .layout-of in
-    let n = count-points s (lay .result) (lay .ensures .0) (p .0 .0) in
+    let lay = c .before .before .before .before .point-count in
+    let n = points-total s (p .0 .0) (lay .result) (lay .ensures .0) in
     let q = c .before .before .before .element in
-    let e = counts-at (tableOf s) (a .lists .now) (p .0 .2) (p .0 .4) (lay .result .«point_count») n (q .result) (q .ensures) in
-    ((p .0 .0, p .0 .1, counts-part (tableOf s) (a .lists .now) (p .0 .2) (p .0 .4) (lay .result .«point_count») n _ e, marks-part (tableOf s) (a .lists .now) (p .0 .2) (p .0 .4) (lay .result .«point_count») n _ e (p .0 .3)), (p .1 .0, p .1 .1, omega arith))
+    let e = counts-at (tableOf s) (a .lists .now) (p .0 .2) (p .0 .4) (lay .result) n (q .result) (q .ensures) in
+    ((p .0 .0, p .0 .1, counts-part (tableOf s) (a .lists .now) (p .0 .2) (p .0 .4) (lay .result) n _ e, marks-part (tableOf s) (a .lists .now) (p .0 .2) (p .0 .4) (lay .result) n _ e (p .0 .3)), (p .1 .0, p .1 .1, omega arith))
 
 same-length : tie.Need-same-length
 same-length c = search needs
@@ -81,7 +76,7 @@ pub put-crossed-spec : {M : Type 1} → statement M
 put-crossed-spec =
     tie.close
     (tie.spec
-    layout-of-requires
+    point-count-requires
     mul-at
     add-at
     element-requires

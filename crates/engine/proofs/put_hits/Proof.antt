@@ -1,7 +1,7 @@
 use mathlib.Core.Path.{_≡_, refl, _∙_}
 use native.Mathlib.Omega.{arith}
 use Rattle.model.specs.Format.{tableOf}
-use Rattle.found.proofs.AllLaws.{count-points}
+use Rattle.layout.proofs.PlaceLaws.{points-total}
 use lib.ListN.{length, take}
 use Rattle.model.specs.Register.{runStretches}
 use Rattle.engine.proofs.EngineLaws.{rows-part, starts-part, rows-room, base-is, counters-many, points-in, crosses-room, hits-all, all-in, counters-small}
@@ -9,15 +9,9 @@ use Rattle.hits.proofs.AllPlaces.{all-few}
 use borrow.Author.Needs.{needs}
 use Rattle.engine.proofs.put_hits.Statement.{statement}
 use Rattle.engine.proofs.put_hits.Tie as tie
-use Rattle.engine.proofs.put_hits.Reads as reads
-use Rattle.engine.proofs.put_hits.Lts as lts
-use Rattle.arrays.proofs.element.Reads as element-reads
-use Rattle.engine.proofs.put_crossed.Reads as put-crossed-reads
-use Rattle.hits.proofs.all.put_point_hits.Reads as put-point-hits-reads
-use Rattle.layout.proofs.layout_of.Reads as layout-of-reads
 
-layout-of-requires : tie.Need-layout-of-requires
-layout-of-requires c κs = search needs
+point-count-requires : tie.Need-point-count-requires
+point-count-requires c κs = search needs
 
 mul-at : tie.Need-mul-at
 mul-at c = search needs
@@ -33,8 +27,8 @@ sub-put-point-hits c =
     let a = c .before .before .before .before .before .before .before .before .before .args in
     let p = c .before .before .before .before .before .before .before .before .before .pre in
     let s = a .t .now in
-    let lay = c .before .layout-of in
-    let n = count-points s (lay .result) (lay .ensures .0) (p .0 .0) in
+    let lay = c .before .point-count in
+    let n = points-total s (p .0 .0) (lay .result) (lay .ensures .0) in
     omega (arith, p .1 .4, n)
 
 part-put-point-hits-start : tie.Need-part-put-point-hits-start
@@ -42,8 +36,8 @@ part-put-point-hits-start c =
     let a = c .before .before .before .before .before .before .before .before .before .args in
     let p = c .before .before .before .before .before .before .before .before .before .pre in
     let s = a .t .now in
-    let lay = c .before .layout-of in
-    let n = count-points s (lay .result) (lay .ensures .0) (p .0 .0) in
+    let lay = c .before .point-count in
+    let n = points-total s (p .0 .0) (lay .result) (lay .ensures .0) in
     omega (arith, p .1 .4, n)
 
 part-put-point-hits-end : tie.Need-part-put-point-hits-end
@@ -54,11 +48,11 @@ put-point-hits-requires c κs =
     let a = c .before .before .before .before .before .before .before .before .before .before .args in
     let p = c .before .before .before .before .before .before .before .before .before .before .pre in
     let s = a .t .now in
-    let lay = c .before .before .layout-of in
-    let n = count-points s (lay .result) (lay .ensures .0) (p .0 .0) in
+    let lay = c .before .before .point-count in
+    let n = points-total s (p .0 .0) (lay .result) (lay .ensures .0) in
     let t = tableOf s in
     let ls = a .lists .now in
-    let m = lay .result .«point_count» in
+    let m = lay .result in
     ((p .0 .0, p .0 .1, p .0 .2, p .0 .3, omega (arith, p .0 .4, counters-many t)), (p .1 .0, p .1 .1, rows-part t ls (p .1 .2) (p .1 .4) m n _ refl, starts-part t ls (p .1 .2) (p .1 .4) m n _ refl, rows-room t ls (p .1 .2) (p .1 .4) m n _ refl))
 
 mul-element : tie.Need-mul-element
@@ -85,8 +79,6 @@ sub-put-crossed c =
     let a = c .before .before .before .before .before .before .before .before .before .before .before .before .before .before .args in
     let p = c .before .before .before .before .before .before .before .before .before .before .before .before .before .before .pre in
     let s = a .t .now in
-    let lay = c .before .before .before .before .before .before .layout-of in
-    let n = count-points s (lay .result) (lay .ensures .0) (p .0 .0) in
     let k = c .before .before .before .put-point-hits in
     points-in (tableOf s) (a .sample .now) _ (a .hits .now) (k .last .0) (k .last .0) (k .result) 0 _ (p .0 .4) (k .ensures .0) (k .ensures .1) refl
 
@@ -95,8 +87,6 @@ part-put-crossed-start c =
     let a = c .before .before .before .before .before .before .before .before .before .before .before .before .before .before .args in
     let p = c .before .before .before .before .before .before .before .before .before .before .before .before .before .before .pre in
     let s = a .t .now in
-    let lay = c .before .before .before .before .before .before .layout-of in
-    let n = count-points s (lay .result) (lay .ensures .0) (p .0 .0) in
     let k = c .before .before .before .put-point-hits in
     omega (arith, points-in (tableOf s) (a .sample .now) _ (a .hits .now) (k .last .0) (k .last .0) (k .result) 0 _ (p .0 .4) (k .ensures .0) (k .ensures .1) refl)
 
@@ -108,26 +98,26 @@ put-crossed-requires c κs =
     let a = c .before .before .before .before .before .before .before .before .before .before .before .before .before .before .before .args in
     let p = c .before .before .before .before .before .before .before .before .before .before .before .before .before .before .before .pre in
     let s = a .t .now in
-    let lay = c .before .before .before .before .before .before .before .layout-of in
-    let n = count-points s (lay .result) (lay .ensures .0) (p .0 .0) in
+    let lay = c .before .before .before .before .before .before .before .point-count in
+    let n = points-total s (p .0 .0) (lay .result) (lay .ensures .0) in
     let t = tableOf s in
     let k = c .before .before .before .before .put-point-hits in
     let b = c .before .element in
-    ((p .0 .0, p .1 .0, p .1 .2, p .1 .3, p .1 .4), (base-is t (a .lists .now) (p .1 .2) (p .1 .4) (lay .result .«point_count») n (b .result) (b .ensures), crosses-room t (a .sample .now) _ (a .hits .now) (k .last .0) (k .last .0) (k .result) 0 _ (p .0 .4) (k .ensures .0) (k .ensures .1) refl))
+    ((p .0 .0, p .1 .0, p .1 .2, p .1 .3, p .1 .4), (base-is t (a .lists .now) (p .1 .2) (p .1 .4) (lay .result) n (b .result) (b .ensures), crosses-room t (a .sample .now) _ (a .hits .now) (k .last .0) (k .last .0) (k .result) 0 _ (p .0 .4) (k .ensures .0) (k .ensures .1) refl))
 
 add-result : tie.Need-add-result
 add-result c =
     let a = c .before .before .before .before .before .before .before .before .before .before .before .before .before .before .before .before .before .before .args in
     let p = c .before .before .before .before .before .before .before .before .before .before .before .before .before .before .before .before .before .before .pre in
     let s = a .t .now in
-    let lay = c .before .before .before .before .before .before .before .before .before .before .layout-of in
-    let n = count-points s (lay .result) (lay .ensures .0) (p .0 .0) in
+    let lay = c .before .before .before .before .before .before .before .before .before .before .point-count in
+    let n = points-total s (p .0 .0) (lay .result) (lay .ensures .0) in
     let t = tableOf s in
     let k = c .before .before .before .before .before .before .before .put-point-hits in
     let b = c .before .before .before .before .element in
     let q = c .before .before .put-crossed in
     let m = runStretches (take (length (t .transitionBins)) (a .lens .now)) in
-    let base = base-is t (a .lists .now) (p .1 .2) (p .1 .4) (lay .result .«point_count») n (b .result) (b .ensures) in
+    let base = base-is t (a .lists .now) (p .1 .2) (p .1 .4) (lay .result) n (b .result) (b .ensures) in
     omega (arith, counters-small s (p .0 .0), all-in t (a .sample .now) m (a .hits .now) (k .last .0) (q .last .0) (k .result) (q .result) (b .result) (p .0 .4) (k .ensures .0) (k .ensures .1) base (q .ensures m .0))
 
 same-length : tie.Need-same-length
@@ -138,21 +128,21 @@ returns c =
     let a = c .before .before .before .before .before .before .before .before .before .before .before .before .before .before .before .before .before .before .args in
     let p = c .before .before .before .before .before .before .before .before .before .before .before .before .before .before .before .before .before .before .pre in
     let s = a .t .now in
-    let lay = c .before .before .before .before .before .before .before .before .before .before .layout-of in
-    let n = count-points s (lay .result) (lay .ensures .0) (p .0 .0) in
+    let lay = c .before .before .before .before .before .before .before .before .before .before .point-count in
+    let n = points-total s (p .0 .0) (lay .result) (lay .ensures .0) in
     let t = tableOf s in
     let k = c .before .before .before .before .before .before .before .put-point-hits in
     let b = c .before .before .before .before .element in
     let q = c .before .before .put-crossed in
     let m = runStretches (take (length (t .transitionBins)) (a .lens .now)) in
-    let base = base-is t (a .lists .now) (p .1 .2) (p .1 .4) (lay .result .«point_count») n (b .result) (b .ensures) in
+    let base = base-is t (a .lists .now) (p .1 .2) (p .1 .4) (lay .result) n (b .result) (b .ensures) in
     hits-all t (a .sample .now) m (a .hits .now) (k .last .0) (q .last .0) (k .result) (q .result) (b .result) (p .0 .4) (k .ensures .0) (k .ensures .1) base (q .ensures m .0) (q .kept .0) (q .ensures m .1)
 
 pub put-hits-spec : {M : Type 1} → statement M
 put-hits-spec =
     tie.close
     (tie.spec
-    layout-of-requires
+    point-count-requires
     mul-at
     add-at
     mul-put-point-hits

@@ -42,21 +42,18 @@ mul-share c = search needs
 shared-slice-read-share : tie.Need-shared-slice-read-share
 shared-slice-read-share c = search needs
 
-add-least : tie.Need-add-least
-add-least c = search needs
+add-capped : tie.Need-add-capped
+add-capped c = search needs
 
-div-least : tie.Need-div-least
-div-least c = search needs
-
-least-requires : tie.Need-least-requires
-least-requires c κs = search needs
+capped-requires : tie.Need-capped-requires
+capped-requires c κs = search needs
 
 add-result : tie.Need-add-result
 add-result c = search needs
 
 returns : tie.Need-returns
 returns c =
-    (rw (c .least .ensures, c .before .before .before .before .before .place .ensures .0), omega (arith, c .before .before .before .before .before .before .before .pre .2 .room))
+    (rw (c .capped .ensures, c .before .before .before .before .before .place .ensures .0), omega (arith, c .before .before .before .before .before .before .before .pre .2 .room))
 
 pub part-spec : {M : Type 1} → statement M
 part-spec =
@@ -75,8 +72,7 @@ part-spec =
     add-share
     mul-share
     shared-slice-read-share
-    add-least
-    div-least
-    least-requires
+    add-capped
+    capped-requires
     add-result
     returns)

@@ -1,7 +1,7 @@
 use borrow.Author.Needs.{needs}
 use native.Mathlib.Omega.{arith}
 use Rattle.model.specs.Format.{tableOf}
-use Rattle.points.proofs.AllLaws.{point-number}
+use Rattle.layout.proofs.PlaceLaws.{points-total}
 use Rattle.sampling.proofs.Joins.{all-count, kinds-stand, starts-stand, counts-stand, kinds-joined}
 use Rattle.sampling.proofs.put_kinds.Statement.{statement}
 use Rattle.sampling.proofs.put_kinds.Tie as tie
@@ -36,8 +36,8 @@ put-cross-kinds-requires c κs =
     let s = b .args .t .now in
     (b .pre .0, counts-stand s _ (k .last .0) (b .pre .0) (k .ensures) (omega arith), omega (arith, all-count (tableOf s), b .pre .1 .1, p .ensures .0, p .kept .0))
 
-layout-of-requires : tie.Need-layout-of-requires
-layout-of-requires c κs = search needs
+point-count-requires : tie.Need-point-count-requires
+point-count-requires c κs = search needs
 
 same-length : tie.Need-same-length
 same-length c = search needs
@@ -48,7 +48,6 @@ returns c =
     let p = c .before .before .before .before .before .before .before .before .before .before .before .before .before .before .put-point-kinds in
     let k = c .before .before .before .before .before .before .before .put-counts in
     let x = c .before .before .before .put-cross-kinds in
-    let l = c .layout-of in
     let s = b .args .t .now in
     let t = tableOf s in (
       record {
@@ -56,7 +55,7 @@ returns c =
         counts = counts-stand s _ (k .last .0) (b .pre .0) (k .ensures) (omega arith);
         starts-sized = omega (arith, p .kept .1 .0);
         counts-sized = omega (arith, k .kept .0);
-        points = point-number s (b .pre .0) (l .result) (l .ensures .0) .0;
+        points = points-total s (b .pre .0) _ (c .point-count .ensures .0);
         counters = omega (arith, x .ensures .0, p .ensures .0, all-count t);
       },
       kinds-joined t _ (p .ensures .0) (b .args .kinds .now) (p .last .0) (x .last .0) (omega (arith, all-count t, b .pre .1 .1, p .ensures .0)) (p .ensures .1 .0) (x .ensures .1),
@@ -73,6 +72,6 @@ put-kinds-spec =
     put-counts-requires
     slice-aggregate-put-cross-kinds
     put-cross-kinds-requires
-    layout-of-requires
+    point-count-requires
     same-length
     returns)

@@ -16,8 +16,8 @@ Inv-loop register₀ reports₀ t s plan lists hits₀ points size illegals a₀
 abbrev μ-loop : tie.MeasureT-loop
 μ-loop register₀ reports₀ t s plan lists hits₀ points size illegals a₀ k₀ taken₀ register reports hits a k taken = length s - a
 
-layout-of-requires : tie.Need-layout-of-requires Inv-loop μ-loop
-layout-of-requires c κs = search needs
+point-count-requires : tie.Need-point-count-requires Inv-loop μ-loop
+point-count-requires c κs = search needs
 
 mul-size : tie.Need-mul-size Inv-loop μ-loop
 mul-size c = search needs
@@ -64,7 +64,7 @@ sub-one-2 : tie.Need-sub-one-2 Inv-loop μ-loop
 sub-one-2 c =
     let p = c .before .before .before .before .before .before .before .before .before .before .before .before .before .before .pre in
     let x = c .before .before .before .before .before .element in
-    let y = c .before .before .before .before .before .before .layout-of in
+    let y = c .before .before .before .before .before .before .point-count in
     let n = counted _ _ _ (p .0 .known) (p .1 .planned) (y .result) (y .ensures .0) (x .result) (x .ensures) in
     let v = c .before .before .before .before .before .before .before .before .before .before .before .before .before .before .args .s .now in
     let l = c .before .before .before .before .loop in
@@ -76,7 +76,7 @@ part-one-start-2 : tie.Need-part-one-start-2 Inv-loop μ-loop
 part-one-start-2 c =
     let p = c .before .before .before .before .before .before .before .before .before .before .before .before .before .before .pre in
     let x = c .before .before .before .before .before .element in
-    let y = c .before .before .before .before .before .before .layout-of in
+    let y = c .before .before .before .before .before .before .point-count in
     let n = counted _ _ _ (p .0 .known) (p .1 .planned) (y .result) (y .ensures .0) (x .result) (x .ensures) in
     let v = c .before .before .before .before .before .before .before .before .before .before .before .before .before .before .args .s .now in
     let l = c .before .before .before .before .loop in
@@ -88,7 +88,7 @@ part-one-end-2 : tie.Need-part-one-end-2 Inv-loop μ-loop
 part-one-end-2 c =
     let p = c .before .before .before .before .before .before .before .before .before .before .before .before .before .before .pre in
     let x = c .before .before .before .before .before .element in
-    let y = c .before .before .before .before .before .before .layout-of in
+    let y = c .before .before .before .before .before .before .point-count in
     let n = counted _ _ _ (p .0 .known) (p .1 .planned) (y .result) (y .ensures .0) (x .result) (x .ensures) in
     let v = c .before .before .before .before .before .before .before .before .before .before .before .before .before .before .args .s .now in
     let l = c .before .before .before .before .loop in
@@ -118,7 +118,7 @@ returns : tie.Need-returns Inv-loop μ-loop
 returns c =
     let p = c .before .before .before .before .before .before .before .before .before .before .before .before .before .before .before .before .before .before .before .before .before .before .before .before .pre in
     let x = c .before .before .before .before .before .before .before .before .before .before .before .before .before .before .before .element in
-    let y = c .before .before .before .before .before .before .before .before .before .before .before .before .before .before .before .before .layout-of in
+    let y = c .before .before .before .before .before .before .before .before .before .before .before .before .before .before .before .before .point-count in
     let n = counted _ _ _ (p .0 .known) (p .1 .planned) (y .result) (y .ensures .0) (x .result) (x .ensures) in
     let v = c .before .before .before .before .before .before .before .before .before .before .before .before .before .before .before .before .before .before .before .before .before .before .before .before .args .s .now in
     let l = c .before .before .before .before .before .before .before .before .before .before .before .before .before .before .loop in
@@ -132,7 +132,7 @@ add-k : tie.Need-add-k Inv-loop μ-loop
 add-k c =
     let p = c .before .before .before .before .before .before .before .before .before .before .before .before .before .before .before .before .before .before .before .before .before .before .before .before .pre in
     let x = c .before .before .before .before .before .before .before .before .before .before .before .before .before .before .before .element in
-    let y = c .before .before .before .before .before .before .before .before .before .before .before .before .before .before .before .before .layout-of in
+    let y = c .before .before .before .before .before .before .before .before .before .before .before .before .before .before .before .before .point-count in
     let n = counted _ _ _ (p .0 .known) (p .1 .planned) (y .result) (y .ensures .0) (x .result) (x .ensures) in
     let v = c .before .before .before .before .before .before .before .before .before .before .before .before .before .before .before .before .before .before .before .before .before .before .before .before .args .s .now in
     let l = c .before .before .before .before .before .before .before .before .before .before .before .before .before .before .loop in
@@ -149,7 +149,7 @@ loop-less : tie.Need-loop-less Inv-loop μ-loop
 loop-less c =
     let p = c .before .before .before .before .before .before .before .before .before .before .before .before .before .before .before .before .before .before .before .before .before .before .before .before .pre in
     let x = c .before .before .before .before .before .before .before .before .before .before .before .before .before .before .before .element in
-    let y = c .before .before .before .before .before .before .before .before .before .before .before .before .before .before .before .before .layout-of in
+    let y = c .before .before .before .before .before .before .before .before .before .before .before .before .before .before .before .before .point-count in
     let n = counted _ _ _ (p .0 .known) (p .1 .planned) (y .result) (y .ensures .0) (x .result) (x .ensures) in
     let v = c .before .before .before .before .before .before .before .before .before .before .before .before .before .before .before .before .before .before .before .before .before .before .before .before .args .s .now in
     let l = c .before .before .before .before .before .before .before .before .before .before .before .before .before .before .loop in
@@ -161,7 +161,7 @@ loop-again : tie.Need-loop-again Inv-loop μ-loop
 loop-again c =
     let p = c .before .before .before .before .before .before .before .before .before .before .before .before .before .before .before .before .before .before .before .before .before .before .before .before .pre in
     let x = c .before .before .before .before .before .before .before .before .before .before .before .before .before .before .before .element in
-    let y = c .before .before .before .before .before .before .before .before .before .before .before .before .before .before .before .before .layout-of in
+    let y = c .before .before .before .before .before .before .before .before .before .before .before .before .before .before .before .before .point-count in
     let n = counted _ _ _ (p .0 .known) (p .1 .planned) (y .result) (y .ensures .0) (x .result) (x .ensures) in
     let v = c .before .before .before .before .before .before .before .before .before .before .before .before .before .before .before .before .before .before .before .before .before .before .before .before .args .s .now in
     let l = c .before .before .before .before .before .before .before .before .before .before .before .before .before .before .loop in
@@ -190,7 +190,7 @@ each-spec =
     (tie.spec
     Inv-loop
     μ-loop
-    layout-of-requires
+    point-count-requires
     mul-size
     add-size
     mul-element

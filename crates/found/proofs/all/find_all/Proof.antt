@@ -6,10 +6,11 @@ use Rattle.model.specs.Values.{lowest}
 use Rattle.model.specs.Format.{tableOf}
 use Rattle.model.specs.Register.{pointTotal}
 use Rattle.model.proofs.RawExact.{few-points}
+use Rattle.layout.proofs.PlaceLaws.{points-total}
 use Rattle.places.specs.Places.{Found}
 use Rattle.pieces.proofs.PlanLaws.{point-is, wide-at}
 use Rattle.found.proofs.HitLaws.{few-hits}
-use Rattle.found.proofs.AllLaws.{code-at, count-points, bins-place, FoundTo, found-turn}
+use Rattle.found.proofs.AllLaws.{code-at, bins-place, FoundTo, found-turn}
 use Rattle.found.proofs.all.find_all.Statement.{statement}
 use Rattle.found.proofs.all.find_all.Tie as tie
 
@@ -20,21 +21,22 @@ Inv-loop found₀ t sample readings plan lists l n p₀ found p =
 abbrev μ-loop : tie.MeasureT-loop
 μ-loop found₀ t sample readings plan lists l n p₀ found p = n - p
 
-layout-of-requires : tie.Need-layout-of-requires Inv-loop μ-loop
-layout-of-requires c κs = tt
+bin-sections-requires : tie.Need-bin-sections-requires Inv-loop μ-loop
+bin-sections-requires c κs = tt
+
+point-count-requires : tie.Need-point-count-requires Inv-loop μ-loop
+point-count-requires c κs = tt
 
 loop-holds : tie.Need-loop-holds Inv-loop μ-loop
 loop-holds c =
-    let a = c .before .before .before .before .before .before .before .args in
-    let q = c .before .before .before .before .before .before .before .pre in
-    let y = c .layout-of in
-    (omega arith, count-points (a .t .now) (y .result) (y .ensures .0) (q .0 .0), refl, λ p h. absurd (omega arith))
+    let a = c .before .before .before .before .before .before .before .before .args in
+    let q = c .before .before .before .before .before .before .before .before .pre in
+    (omega arith, points-total (a .t .now) (q .0 .0) _ (c .point-count .ensures .0), refl, λ p h. absurd (omega arith))
 
 mul-lowest-at : tie.Need-mul-lowest-at Inv-loop μ-loop
 mul-lowest-at c =
-    let a = c .before .before .before .before .before .before .before .before .before .args in
-    let q = c .before .before .before .before .before .before .before .before .before .pre in
-    let y = c .before .before .layout-of in
+    let a = c .before .before .before .before .before .before .before .before .before .before .args in
+    let q = c .before .before .before .before .before .before .before .before .before .before .pre in
     let l = c .before .loop in
     omega (arith, few-points (a .t .now) (q .0 .0), l .inv .1, c .loop-test .taken)
 
@@ -42,63 +44,57 @@ add-lowest-at : tie.Need-add-lowest-at Inv-loop μ-loop
 add-lowest-at c =
     let a = c .before .before .before .before .before .before .before .before .before .before .args in
     let q = c .before .before .before .before .before .before .before .before .before .before .pre in
-    let y = c .before .before .before .layout-of in
-    let l = c .before .before .loop in
-    omega (arith, few-points (a .t .now) (q .0 .0), l .inv .1, c .before .loop-test .taken, y .ensures .1 .points)
+    let l = c .before .loop in
+    omega (arith, few-points (a .t .now) (q .0 .0), l .inv .1, c .loop-test .taken)
 
 lowest-at-requires : tie.Need-lowest-at-requires Inv-loop μ-loop
 lowest-at-requires c κs =
     let a = c .before .before .before .before .before .before .before .before .before .before .args in
     let q = c .before .before .before .before .before .before .before .before .before .before .pre in
-    let y = c .before .before .before .layout-of in
-    let l = c .before .before .loop in
-    (omega (arith, few-points (a .t .now) (q .0 .0), l .inv .1, c .before .loop-test .taken, y .ensures .1 .points), wide-at (a .t .now) (q .0 .0) (l .p) (omega (arith, l .inv .1, c .before .loop-test .taken)) (y .result) (y .ensures .0))
+    let l = c .before .loop in
+    (omega (arith, few-points (a .t .now) (q .0 .0), l .inv .1, c .loop-test .taken), wide-at (a .t .now) (q .0 .0) (l .p) (omega (arith, l .inv .1, c .loop-test .taken)))
 
 mul-t13 : tie.Need-mul-t13 Inv-loop μ-loop
 mul-t13 c =
     let a = c .before .before .before .before .before .before .before .before .before .before .before .args in
     let q = c .before .before .before .before .before .before .before .before .before .before .before .pre in
-    let y = c .before .before .before .before .layout-of in
-    let l = c .before .before .before .loop in
-    omega (arith, few-points (a .t .now) (q .0 .0), l .inv .1, c .before .before .loop-test .taken)
+    let l = c .before .before .loop in
+    omega (arith, few-points (a .t .now) (q .0 .0), l .inv .1, c .before .loop-test .taken)
 
 shared-slice-read-t16 : tie.Need-shared-slice-read-t16 Inv-loop μ-loop
 shared-slice-read-t16 c =
     let a = c .before .before .before .before .before .before .before .before .before .before .before .before .args in
     let q = c .before .before .before .before .before .before .before .before .before .before .before .before .pre in
-    let y = c .before .before .before .before .before .layout-of in
-    let l = c .before .before .before .before .loop in
-    omega (arith, few-points (a .t .now) (q .0 .0), l .inv .1, c .before .before .before .loop-test .taken, q .0 .2)
+    let l = c .before .before .before .loop in
+    omega (arith, few-points (a .t .now) (q .0 .0), l .inv .1, c .before .before .loop-test .taken, q .0 .2)
 
 find-point-requires : tie.Need-find-point-requires Inv-loop μ-loop
 find-point-requires c κs =
     let a = c .before .before .before .before .before .before .before .before .before .before .before .before .before .args in
     let q = c .before .before .before .before .before .before .before .before .before .before .before .before .before .pre in
-    let y = c .before .before .before .before .before .before .layout-of in
-    let l = c .before .before .before .before .before .loop in
+    let y = c .before .before .before .before .before .before .bin-sections in
+    let l = c .before .before .before .before .loop in
     let s = a .t .now in
-    let h : l .p < pointTotal (tableOf s) = omega (arith, l .inv .1, c .before .before .before .before .loop-test .taken) in
-    ((q .0 .0, h, q .0 .1 .widths, code-at (tableOf s) (a .sample .now) (a .readings .now) (l .p) (q .0 .1) h, c .before .before .lowest-at .ensures ∙ ap lowest (sym (point-is s (q .0 .0) (l .p) h (y .result) (y .ensures .0))), bins-place s (y .result) (y .ensures .0)), (q .1 .0, q .1 .1, q .1 .2, omega (arith, q .1 .3, l .inv .2)))
+    let h : l .p < pointTotal (tableOf s) = omega (arith, l .inv .1, c .before .before .before .loop-test .taken) in
+    ((q .0 .0, h, q .0 .1 .widths, code-at (tableOf s) (a .sample .now) (a .readings .now) (l .p) (q .0 .1) h, c .before .before .lowest-at .ensures ∙ ap lowest (sym (point-is s (q .0 .0) (l .p) h)), bins-place s (y .result) (y .ensures .0)), (q .1 .0, q .1 .1, q .1 .2, omega (arith, q .1 .3, l .inv .2)))
 
 add-p : tie.Need-add-p Inv-loop μ-loop
 add-p c =
     let a = c .before .before .before .before .before .before .before .before .before .before .before .before .before .before .before .before .args in
     let q = c .before .before .before .before .before .before .before .before .before .before .before .before .before .before .before .before .pre in
-    let y = c .before .before .before .before .before .before .before .before .before .layout-of in
-    let l = c .before .before .before .before .before .before .before .before .loop in
-    omega (arith, few-points (a .t .now) (q .0 .0), l .inv .1, c .before .before .before .before .before .before .before .loop-test .taken)
+    let l = c .before .before .before .before .before .before .before .loop in
+    omega (arith, few-points (a .t .now) (q .0 .0), l .inv .1, c .before .before .before .before .before .before .loop-test .taken)
 
 loop-less : tie.Need-loop-less Inv-loop μ-loop
-loop-less c = omega (arith, c .before .before .before .before .before .before .before .loop-test .taken)
+loop-less c = omega (arith, c .before .before .before .before .before .before .loop-test .taken)
 
 loop-again : tie.Need-loop-again Inv-loop μ-loop
 loop-again c =
     let a = c .before .before .before .before .before .before .before .before .before .before .before .before .before .before .before .before .args in
     let q = c .before .before .before .before .before .before .before .before .before .before .before .before .before .before .before .before .pre in
-    let y = c .before .before .before .before .before .before .before .before .before .layout-of in
-    let l = c .before .before .before .before .before .before .before .before .loop in
+    let l = c .before .before .before .before .before .before .before .loop in
     let s = a .t .now in
-    let h = c .before .before .before .before .before .before .before .loop-test .taken in
+    let h = c .before .before .before .before .before .before .loop-test .taken in
     let w = c .before .before .find-point in (
       omega (arith, h),
       l .inv .1,
@@ -121,7 +117,8 @@ find-all-spec =
     (tie.spec
     Inv-loop
     μ-loop
-    layout-of-requires
+    bin-sections-requires
+    point-count-requires
     loop-holds
     mul-lowest-at
     add-lowest-at

@@ -5,7 +5,8 @@ use borrow.Rule.Slice.PartMut.{same-len-mid}
 use lib.ListN.{length, getD}
 use Rattle.model.specs.Format.{tableOf}
 use Rattle.model.specs.Register.{pointTotal}
-use Rattle.points.proofs.AllLaws.{point-number, few-here}
+use Rattle.layout.proofs.PlaceLaws.{points-total}
+use Rattle.points.proofs.AllLaws.{few-here}
 use Rattle.arrays.specs.Put.{put}
 use Rattle.lists.proofs.Fronts.{lent-length, back-put}
 use Rattle.lists.proofs.RowLaws.{RowsTo, row-is, rows-none, rows-next, rows-all, turn}
@@ -18,15 +19,15 @@ Inv-loop rows₀ t kinds starts n p₀ rows p = (p ≤ n) × (n ≡ pointTotal (
 abbrev μ-loop : tie.MeasureT-loop
 μ-loop rows₀ t kinds starts n p₀ rows p = n - p
 
-layout-of-requires : tie.Need-layout-of-requires Inv-loop μ-loop
-layout-of-requires c κs = tt
+point-count-requires : tie.Need-point-count-requires Inv-loop μ-loop
+point-count-requires c κs = tt
 
 loop-holds : tie.Need-loop-holds Inv-loop μ-loop
 loop-holds c =
     let a = c .before .before .before .before .before .args in
     let p = c .before .before .before .before .before .pre in
     let s = a .t .now in
-    (omega arith, point-number s (p .0 .0) (c .layout-of .result) (c .layout-of .ensures .0) .0, refl, rows-none (tableOf s) (few-here s (p .0 .0)) (a .rows .now))
+    (omega arith, points-total s (p .0 .0) _ (c .point-count .ensures .0), refl, rows-none (tableOf s) (few-here s (p .0 .0)) (a .rows .now))
 
 mul-from : tie.Need-mul-from Inv-loop μ-loop
 mul-from c =
@@ -230,7 +231,7 @@ put-place-rows-spec =
     (tie.spec
     Inv-loop
     μ-loop
-    layout-of-requires
+    point-count-requires
     loop-holds
     mul-from
     shared-slice-read-from

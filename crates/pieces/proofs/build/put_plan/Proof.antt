@@ -5,8 +5,8 @@ use borrow.Author.Needs.{needs}
 use Rattle.pieces.proofs.build.put_plan.Statement.{statement}
 use Rattle.pieces.proofs.build.put_plan.Tie as tie
 
-layout-of-requires : tie.Need-layout-of-requires
-layout-of-requires c κs = search needs
+bin-sections-requires : tie.Need-bin-sections-requires
+bin-sections-requires c κs = search needs
 
 larger-requires : tie.Need-larger-requires
 larger-requires c κs = search needs
@@ -14,7 +14,7 @@ larger-requires c κs = search needs
 put-small-requires : tie.Need-put-small-requires
 put-small-requires c κs =
     let q = c .before .before .before .before .before .before .before .before .pre in
-    let l = c .before .before .before .before .layout-of in
+    let l = c .before .before .before .before .bin-sections in
     let n = counts-at (c .before .before .before .before .before .before .before .before .args .t .now) (l .result) (l .ensures .0) in
     (q .0, q .1, q .2, omega (arith, n .0, c .before .before .before .larger .ensures), omega (arith, n .1, c .before .before .before .larger .ensures))
 
@@ -30,7 +30,7 @@ returns c = search needs
 put-medium-requires : tie.Need-put-medium-requires
 put-medium-requires c κs =
     let q = c .before .before .before .before .before .before .before .before .before .pre in
-    let l = c .before .before .before .before .before .layout-of in
+    let l = c .before .before .before .before .before .bin-sections in
     let n = counts-at (c .before .before .before .before .before .before .before .before .before .args .t .now) (l .result) (l .ensures .0) in
     (q .0, q .1, q .2, omega (arith, n .0, c .before .before .before .before .larger .ensures), omega (arith, n .1, c .before .before .before .before .larger .ensures))
 
@@ -62,7 +62,7 @@ pub put-plan-spec : {M : Type 1} → statement M
 put-plan-spec =
     tie.close
     (tie.spec
-    layout-of-requires
+    bin-sections-requires
     larger-requires
     put-small-requires
     same-length

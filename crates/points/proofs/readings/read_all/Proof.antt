@@ -8,16 +8,15 @@ use borrow.Author.Needs.{needs}
 use Rattle.points.proofs.readings.read_all.Statement.{statement}
 use Rattle.points.proofs.readings.read_all.Tie as tie
 
-layout-of-requires : tie.Need-layout-of-requires
-layout-of-requires c κs = search needs
+point-count-requires : tie.Need-point-count-requires
+point-count-requires c κs = search needs
 
 put-readings-requires : tie.Need-put-readings-requires
 put-readings-requires c κs =
     let a = c .before .before .before .before .before .args in
     let p = c .before .before .before .before .before .pre in
-    let l = c .before .layout-of in
-    let r = read-ready (a .t .now) (a .sample .now) (p .0) (l .result) (l .ensures .0) (l .ensures .1) (p .3) in
-    (r .0, r .1, omega (arith, r .1), r .2)
+    let r = read-ready (a .t .now) (a .sample .now) (p .0) _ (c .before .point-count .ensures .0) (p .3) in
+    (omega arith, r .0, omega (arith, r .0), r .1)
 
 same-length : tie.Need-same-length
 same-length c = search needs
@@ -26,8 +25,7 @@ returns : tie.Need-returns
 returns c =
     let a = c .before .before .before .before .before .before .before .before .args in
     let p = c .before .before .before .before .before .before .before .before .pre in
-    let l = c .before .before .before .before .layout-of in
-    c .before .before .put-readings .ensures ∙ ap (λ (x : List ℕ). put 0 x (a .readings .now)) (read-codes (a .t .now) (a .sample .now) (p .0) (l .result) (l .ensures .0))
+    c .before .before .put-readings .ensures ∙ ap (λ (x : List ℕ). put 0 x (a .readings .now)) (read-codes (a .t .now) (a .sample .now) (p .0) _ (c .before .before .before .before .point-count .ensures .0))
 
 pub read-all-spec : {M : Type 1} → statement M
-read-all-spec = tie.close (tie.spec layout-of-requires put-readings-requires same-length returns)
+read-all-spec = tie.close (tie.spec point-count-requires put-readings-requires same-length returns)

@@ -11,8 +11,8 @@ use borrow.Author.Needs.{needs}
 use Rattle.samples.proofs.write.find.Statement.{statement}
 use Rattle.samples.proofs.write.find.Tie as tie
 
-layout-of-requires : tie.Need-layout-of-requires
-layout-of-requires c κs = search needs
+point-count-requires : tie.Need-point-count-requires
+point-count-requires c κs = search needs
 
 element-requires : tie.Need-element-requires
 element-requires c κs = search needs
@@ -31,12 +31,12 @@ read-all-requires c κs = search needs
 
 advance-runs-requires : tie.Need-advance-runs-requires
 advance-runs-requires c κs =
-    let a = c .before .before .before .before .before .before .before .before .before .before .before .before .before .before .before .before .args in
-    let p = c .before .before .before .before .before .before .before .before .before .before .before .before .before .before .before .before .pre in
+    let a = c .before .before .before .before .before .before .before .before .before .before .before .before .before .before .before .args in
+    let p = c .before .before .before .before .before .before .before .before .before .before .before .before .before .before .before .pre in
     let b = a .t .now in
-    let lay = c .before .before .before .before .before .before .before .before .layout-of in
-    let k = c .before .before .before .before .before .before .before .element in
-    let at = 2 + k .result + lay .result .«point_count» in
+    let lay = c .before .before .before .before .before .before .before .point-count in
+    let k = c .before .before .before .before .before .before .element in
+    let at = 2 + k .result + lay .result in
     let here = runs-at b (p .0) (lay .result) (lay .ensures .0) (k .result) (k .ensures ∙ p .1 .counters) in
     let room = runs-room b (p .0) (a .sample .now) (a .register .now) (p .2) (p .3) at here in
     (p .0, omega (arith, c .before .before .before .before .read-all .kept .0, p .6), omega (arith, few b (p .0), here), room)
@@ -46,12 +46,12 @@ slice-aggregate-put-lengths c = search needs
 
 put-lengths-requires : tie.Need-put-lengths-requires
 put-lengths-requires c κs =
-    let a = c .before .before .before .before .before .before .before .before .before .before .before .before .before .before .before .before .before .before .before .before .before .args in
-    let p = c .before .before .before .before .before .before .before .before .before .before .before .before .before .before .before .before .before .before .before .before .before .pre in
+    let a = c .before .before .before .before .before .before .before .before .before .before .before .before .before .before .before .before .before .before .before .before .args in
+    let p = c .before .before .before .before .before .before .before .before .before .before .before .before .before .before .before .before .before .before .before .before .pre in
     let b = a .t .now in
-    let lay = c .before .before .before .before .before .before .before .before .before .before .before .before .before .layout-of in
-    let k = c .before .before .before .before .before .before .before .before .before .before .before .before .element in
-    let at = 2 + k .result + lay .result .«point_count» in
+    let lay = c .before .before .before .before .before .before .before .before .before .before .before .before .point-count in
+    let k = c .before .before .before .before .before .before .before .before .before .before .before .element in
+    let at = 2 + k .result + lay .result in
     let here = runs-at b (p .0) (lay .result) (lay .ensures .0) (k .result) (k .ensures ∙ p .1 .counters) in
     let room = runs-room b (p .0) (a .sample .now) (a .register .now) (p .2) (p .3) at here in
     (p .0, omega arith, omega (arith, few b (p .0), here), omega (arith, room, c .before .before .before .before .advance-runs .kept .0))
@@ -61,12 +61,12 @@ slice-aggregate-find-hits c = search needs
 
 find-hits-requires : tie.Need-find-hits-requires
 find-hits-requires c κs =
-    let a = c .before .before .before .before .before .before .before .before .before .before .before .before .before .before .before .before .before .before .before .before .before .before .before .before .before .before .args in
-    let p = c .before .before .before .before .before .before .before .before .before .before .before .before .before .before .before .before .before .before .before .before .before .before .before .before .before .before .pre in
+    let a = c .before .before .before .before .before .before .before .before .before .before .before .before .before .before .before .before .before .before .before .before .before .before .before .before .before .args in
+    let p = c .before .before .before .before .before .before .before .before .before .before .before .before .before .before .before .before .before .before .before .before .before .before .before .before .before .pre in
     let b = a .t .now in
-    let lay = c .before .before .before .before .before .before .before .before .before .before .before .before .before .before .before .before .before .before .layout-of in
-    let k = c .before .before .before .before .before .before .before .before .before .before .before .before .before .before .before .before .before .element in
-    let at = 2 + k .result + lay .result .«point_count» in
+    let lay = c .before .before .before .before .before .before .before .before .before .before .before .before .before .before .before .before .before .point-count in
+    let k = c .before .before .before .before .before .before .before .before .before .before .before .before .before .before .before .before .element in
+    let at = 2 + k .result + lay .result in
     let here = runs-at b (p .0) (lay .result) (lay .ensures .0) (k .result) (k .ensures ∙ p .1 .counters) in
     let room = runs-room b (p .0) (a .sample .now) (a .register .now) (p .2) (p .3) at here in
     let r = c .before .before .before .before .before .before .before .before .before .before .before .before .before .before .read-all in
@@ -83,12 +83,12 @@ same-length-3 c = search needs
 
 returns : tie.Need-returns
 returns c =
-    let a = c .before .before .before .before .before .before .before .before .before .before .before .before .before .before .before .before .before .before .before .before .before .before .before .before .before .before .before .before .before .args in
-    let p = c .before .before .before .before .before .before .before .before .before .before .before .before .before .before .before .before .before .before .before .before .before .before .before .before .before .before .before .before .before .pre in
+    let a = c .before .before .before .before .before .before .before .before .before .before .before .before .before .before .before .before .before .before .before .before .before .before .before .before .before .before .before .before .args in
+    let p = c .before .before .before .before .before .before .before .before .before .before .before .before .before .before .before .before .before .before .before .before .before .before .before .before .before .before .before .before .pre in
     let b = a .t .now in
-    let lay = c .before .before .before .before .before .before .before .before .before .before .before .before .before .before .before .before .before .before .before .before .before .layout-of in
-    let k = c .before .before .before .before .before .before .before .before .before .before .before .before .before .before .before .before .before .before .before .before .element in
-    let at = 2 + k .result + lay .result .«point_count» in
+    let lay = c .before .before .before .before .before .before .before .before .before .before .before .before .before .before .before .before .before .before .before .before .point-count in
+    let k = c .before .before .before .before .before .before .before .before .before .before .before .before .before .before .before .before .before .before .before .element in
+    let at = 2 + k .result + lay .result in
     let here = runs-at b (p .0) (lay .result) (lay .ensures .0) (k .result) (k .ensures ∙ p .1 .counters) in
     let room = runs-room b (p .0) (a .sample .now) (a .register .now) (p .2) (p .3) at here in
     let r = c .before .before .before .before .before .before .before .before .before .before .before .before .before .before .before .before .before .read-all in
@@ -106,7 +106,7 @@ pub find-spec : {M : Type 1} → statement M
 find-spec =
     tie.close
     (tie.spec
-    layout-of-requires
+    point-count-requires
     element-requires
     cast-k
     add-at

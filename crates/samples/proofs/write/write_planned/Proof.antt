@@ -3,14 +3,14 @@ use native.Mathlib.Omega.{arith}
 use lib.Seq.{length-take-le}
 use Rattle.model.specs.Format.{tableOf}
 use Rattle.samples.proofs.Passed.{all-passed}
-use Rattle.samples.proofs.FindLaws.{points-count}
+use Rattle.layout.proofs.PlaceLaws.{points-total}
 use Rattle.samples.proofs.PlannedWrites.{hits-in, countable, codes-in, in-order, counted, words-written, illegals-in, report-room, illegals-order, report-written}
 use borrow.Author.Needs.{needs}
 use Rattle.samples.proofs.write.write_planned.Statement.{statement}
 use Rattle.samples.proofs.write.write_planned.Tie as tie
 
-layout-of-requires : tie.Need-layout-of-requires
-layout-of-requires c κs = search needs
+point-count-requires : tie.Need-point-count-requires
+point-count-requires c κs = search needs
 
 element-requires : tie.Need-element-requires
 element-requires c κs = search needs
@@ -34,22 +34,22 @@ slice-reshare-prefix-raise-counts c =
     let a = c .before .before .before .before .before .before .before .before .before .before .before .before .before .before .before .before .before .before .before .args in
     let p = c .before .before .before .before .before .before .before .before .before .before .before .before .before .before .before .before .before .before .before .pre in
     let b = a .t .now in
-    let lay = c .before .before .before .before .before .before .before .before .before .before .before .layout-of in
+    let lay = c .before .before .before .before .before .before .before .before .before .before .before .point-count in
     let k = c .before .before .before .before .before .before .before .before .before .before .element in
-    let n = points-count b (p .0) (lay .result) (lay .ensures .0) in
+    let n = points-total b (p .0) (lay .result) (lay .ensures .0) in
     let f = c .before .before .before .before .before .before .find in
-    hits-in b (p .0) (a .sample .now) (a .register .now) (a .report .now) (p .3) (a .plan .now) (a .lists .now) (p .1) (lay .result .«point_count») (k .result) n (k .ensures) (f .last .0) (f .ensures .0) (f .result) (a .hits .now) (f .last .1 .0) (f .ensures .1 .0 .0) (f .ensures .1 .0 .1) (f .kept .1 .0) _ (f .last .1 .1 .0) (f .ensures .1 .1) (f .kept .1 .1 .0)
+    hits-in b (p .0) (a .sample .now) (a .register .now) (a .report .now) (p .3) (a .plan .now) (a .lists .now) (p .1) (lay .result) (k .result) n (k .ensures) (f .last .0) (f .ensures .0) (f .result) (a .hits .now) (f .last .1 .0) (f .ensures .1 .0 .0) (f .ensures .1 .0 .1) (f .kept .1 .0) _ (f .last .1 .1 .0) (f .ensures .1 .1) (f .kept .1 .1 .0)
 
 slice-aggregate-raise-counts : tie.Need-slice-aggregate-raise-counts
 slice-aggregate-raise-counts c =
     let a = c .before .before .before .before .before .before .before .before .before .before .before .before .before .before .before .before .before .before .before .before .args in
     let p = c .before .before .before .before .before .before .before .before .before .before .before .before .before .before .before .before .before .before .before .before .pre in
     let b = a .t .now in
-    let lay = c .before .before .before .before .before .before .before .before .before .before .before .before .layout-of in
+    let lay = c .before .before .before .before .before .before .before .before .before .before .before .before .point-count in
     let k = c .before .before .before .before .before .before .before .before .before .before .before .element in
-    let n = points-count b (p .0) (lay .result) (lay .ensures .0) in
+    let n = points-total b (p .0) (lay .result) (lay .ensures .0) in
     let f = c .before .before .before .before .before .before .before .find in
-    sym (length-take-le (f .result) (f .last .1 .0) (hits-in b (p .0) (a .sample .now) (a .register .now) (a .report .now) (p .3) (a .plan .now) (a .lists .now) (p .1) (lay .result .«point_count») (k .result) n (k .ensures) (f .last .0) (f .ensures .0) (f .result) (a .hits .now) (f .last .1 .0) (f .ensures .1 .0 .0) (f .ensures .1 .0 .1) (f .kept .1 .0) _ (f .last .1 .1 .0) (f .ensures .1 .1) (f .kept .1 .1 .0)))
+    sym (length-take-le (f .result) (f .last .1 .0) (hits-in b (p .0) (a .sample .now) (a .register .now) (a .report .now) (p .3) (a .plan .now) (a .lists .now) (p .1) (lay .result) (k .result) n (k .ensures) (f .last .0) (f .ensures .0) (f .result) (a .hits .now) (f .last .1 .0) (f .ensures .1 .0 .0) (f .ensures .1 .0 .1) (f .kept .1 .0) _ (f .last .1 .1 .0) (f .ensures .1 .1) (f .kept .1 .1 .0)))
 
 slice-aggregate-raise-counts-2 : tie.Need-slice-aggregate-raise-counts-2
 slice-aggregate-raise-counts-2 c = search needs
@@ -59,11 +59,11 @@ raise-counts-requires c κs =
     let a = c .before .before .before .before .before .before .before .before .before .before .before .before .before .before .before .before .before .before .before .before .before .args in
     let p = c .before .before .before .before .before .before .before .before .before .before .before .before .before .before .before .before .before .before .before .before .before .pre in
     let b = a .t .now in
-    let lay = c .before .before .before .before .before .before .before .before .before .before .before .before .before .layout-of in
+    let lay = c .before .before .before .before .before .before .before .before .before .before .before .before .before .point-count in
     let k = c .before .before .before .before .before .before .before .before .before .before .before .before .element in
-    let n = points-count b (p .0) (lay .result) (lay .ensures .0) in
+    let n = points-total b (p .0) (lay .result) (lay .ensures .0) in
     let f = c .before .before .before .before .before .before .before .before .find in
-    (countable b (p .0) (a .sample .now) (a .register .now) (a .report .now) (p .3) (a .plan .now) (a .lists .now) (p .1) (lay .result .«point_count») (k .result) n (k .ensures) (f .last .0) (f .ensures .0) (f .result) (a .hits .now) (f .last .1 .0) (f .ensures .1 .0 .0) (f .ensures .1 .0 .1) (f .kept .1 .0) _ (f .last .1 .1 .0) (f .ensures .1 .1) (f .kept .1 .1 .0), codes-in b (p .0) (a .sample .now) (a .register .now) (a .report .now) (p .3) (a .plan .now) (a .lists .now) (p .1) (lay .result .«point_count») (k .result) n (k .ensures) (f .last .0) (f .ensures .0) (f .result) (a .hits .now) (f .last .1 .0) (f .ensures .1 .0 .0) (f .ensures .1 .0 .1) (f .kept .1 .0) _ (f .last .1 .1 .0) (f .ensures .1 .1) (f .kept .1 .1 .0), in-order b (p .0) (a .sample .now) (a .register .now) (a .report .now) (p .3) (a .plan .now) (a .lists .now) (p .1) (lay .result .«point_count») (k .result) n (k .ensures) (f .last .0) (f .ensures .0) (f .result) (a .hits .now) (f .last .1 .0) (f .ensures .1 .0 .0) (f .ensures .1 .0 .1) (f .kept .1 .0) _ (f .last .1 .1 .0) (f .ensures .1 .1) (f .kept .1 .1 .0), counted b (p .0) (a .sample .now) (a .register .now) (a .report .now) (p .3) (a .plan .now) (a .lists .now) (p .1) (lay .result .«point_count») (k .result) n (k .ensures) (f .last .0) (f .ensures .0) (f .result) (a .hits .now) (f .last .1 .0) (f .ensures .1 .0 .0) (f .ensures .1 .0 .1) (f .kept .1 .0) _ (f .last .1 .1 .0) (f .ensures .1 .1) (f .kept .1 .1 .0))
+    (countable b (p .0) (a .sample .now) (a .register .now) (a .report .now) (p .3) (a .plan .now) (a .lists .now) (p .1) (lay .result) (k .result) n (k .ensures) (f .last .0) (f .ensures .0) (f .result) (a .hits .now) (f .last .1 .0) (f .ensures .1 .0 .0) (f .ensures .1 .0 .1) (f .kept .1 .0) _ (f .last .1 .1 .0) (f .ensures .1 .1) (f .kept .1 .1 .0), codes-in b (p .0) (a .sample .now) (a .register .now) (a .report .now) (p .3) (a .plan .now) (a .lists .now) (p .1) (lay .result) (k .result) n (k .ensures) (f .last .0) (f .ensures .0) (f .result) (a .hits .now) (f .last .1 .0) (f .ensures .1 .0 .0) (f .ensures .1 .0 .1) (f .kept .1 .0) _ (f .last .1 .1 .0) (f .ensures .1 .1) (f .kept .1 .1 .0), in-order b (p .0) (a .sample .now) (a .register .now) (a .report .now) (p .3) (a .plan .now) (a .lists .now) (p .1) (lay .result) (k .result) n (k .ensures) (f .last .0) (f .ensures .0) (f .result) (a .hits .now) (f .last .1 .0) (f .ensures .1 .0 .0) (f .ensures .1 .0 .1) (f .kept .1 .0) _ (f .last .1 .1 .0) (f .ensures .1 .1) (f .kept .1 .1 .0), counted b (p .0) (a .sample .now) (a .register .now) (a .report .now) (p .3) (a .plan .now) (a .lists .now) (p .1) (lay .result) (k .result) n (k .ensures) (f .last .0) (f .ensures .0) (f .result) (a .hits .now) (f .last .1 .0) (f .ensures .1 .0 .0) (f .ensures .1 .0 .1) (f .kept .1 .0) _ (f .last .1 .1 .0) (f .ensures .1 .1) (f .kept .1 .1 .0))
 
 mul-at : tie.Need-mul-at
 mul-at c = search needs
@@ -100,45 +100,45 @@ part-report-listed-end c =
     let a = c .before .before .before .before .before .before .before .before .before .before .before .before .before .before .before .before .before .before .before .before .before .before .before .before .before .before .args in
     let p = c .before .before .before .before .before .before .before .before .before .before .before .before .before .before .before .before .before .before .before .before .before .before .before .before .before .before .pre in
     let b = a .t .now in
-    let lay = c .before .before .before .before .before .before .before .before .before .before .before .before .before .before .before .before .before .before .layout-of in
+    let lay = c .before .before .before .before .before .before .before .before .before .before .before .before .before .before .before .before .before .before .point-count in
     let k = c .before .before .before .before .before .before .before .before .before .before .before .before .before .before .before .before .before .element in
-    let n = points-count b (p .0) (lay .result) (lay .ensures .0) in
+    let n = points-total b (p .0) (lay .result) (lay .ensures .0) in
     let f = c .before .before .before .before .before .before .before .before .before .before .before .before .before .find in
-    omega (arith, illegals-in b (p .0) (a .sample .now) (a .register .now) (a .report .now) (p .3) (a .plan .now) (a .lists .now) (p .1) (lay .result .«point_count») (k .result) n (k .ensures) (f .last .0) (f .ensures .0) (f .result) (a .hits .now) (f .last .1 .0) (f .ensures .1 .0 .0) (f .ensures .1 .0 .1) (f .kept .1 .0) _ (f .last .1 .1 .0) (f .ensures .1 .1) (f .kept .1 .1 .0) (c .before .element2 .result) (c .before .element2 .ensures))
+    omega (arith, illegals-in b (p .0) (a .sample .now) (a .register .now) (a .report .now) (p .3) (a .plan .now) (a .lists .now) (p .1) (lay .result) (k .result) n (k .ensures) (f .last .0) (f .ensures .0) (f .result) (a .hits .now) (f .last .1 .0) (f .ensures .1 .0 .0) (f .ensures .1 .0 .1) (f .kept .1 .0) _ (f .last .1 .1 .0) (f .ensures .1 .1) (f .kept .1 .1 .0) (c .before .element2 .result) (c .before .element2 .ensures))
 
 slice-reshare-prefix-report-listed : tie.Need-slice-reshare-prefix-report-listed
 slice-reshare-prefix-report-listed c =
     let a = c .before .before .before .before .before .before .before .before .before .before .before .before .before .before .before .before .before .before .before .before .before .before .before .before .before .before .before .args in
     let p = c .before .before .before .before .before .before .before .before .before .before .before .before .before .before .before .before .before .before .before .before .before .before .before .before .before .before .before .pre in
     let b = a .t .now in
-    let lay = c .before .before .before .before .before .before .before .before .before .before .before .before .before .before .before .before .before .before .before .layout-of in
+    let lay = c .before .before .before .before .before .before .before .before .before .before .before .before .before .before .before .before .before .before .before .point-count in
     let k = c .before .before .before .before .before .before .before .before .before .before .before .before .before .before .before .before .before .before .element in
-    let n = points-count b (p .0) (lay .result) (lay .ensures .0) in
+    let n = points-total b (p .0) (lay .result) (lay .ensures .0) in
     let f = c .before .before .before .before .before .before .before .before .before .before .before .before .before .before .find in
-    hits-in b (p .0) (a .sample .now) (a .register .now) (a .report .now) (p .3) (a .plan .now) (a .lists .now) (p .1) (lay .result .«point_count») (k .result) n (k .ensures) (f .last .0) (f .ensures .0) (f .result) (a .hits .now) (f .last .1 .0) (f .ensures .1 .0 .0) (f .ensures .1 .0 .1) (f .kept .1 .0) _ (f .last .1 .1 .0) (f .ensures .1 .1) (f .kept .1 .1 .0)
+    hits-in b (p .0) (a .sample .now) (a .register .now) (a .report .now) (p .3) (a .plan .now) (a .lists .now) (p .1) (lay .result) (k .result) n (k .ensures) (f .last .0) (f .ensures .0) (f .result) (a .hits .now) (f .last .1 .0) (f .ensures .1 .0 .0) (f .ensures .1 .0 .1) (f .kept .1 .0) _ (f .last .1 .1 .0) (f .ensures .1 .1) (f .kept .1 .1 .0)
 
 slice-aggregate-report-listed : tie.Need-slice-aggregate-report-listed
 slice-aggregate-report-listed c =
     let a = c .before .before .before .before .before .before .before .before .before .before .before .before .before .before .before .before .before .before .before .before .before .before .before .before .before .before .before .before .args in
     let p = c .before .before .before .before .before .before .before .before .before .before .before .before .before .before .before .before .before .before .before .before .before .before .before .before .before .before .before .before .pre in
     let b = a .t .now in
-    let lay = c .before .before .before .before .before .before .before .before .before .before .before .before .before .before .before .before .before .before .before .before .layout-of in
+    let lay = c .before .before .before .before .before .before .before .before .before .before .before .before .before .before .before .before .before .before .before .before .point-count in
     let k = c .before .before .before .before .before .before .before .before .before .before .before .before .before .before .before .before .before .before .before .element in
-    let n = points-count b (p .0) (lay .result) (lay .ensures .0) in
+    let n = points-total b (p .0) (lay .result) (lay .ensures .0) in
     let f = c .before .before .before .before .before .before .before .before .before .before .before .before .before .before .before .find in
-    sym (length-take-le (f .result) (f .last .1 .0) (hits-in b (p .0) (a .sample .now) (a .register .now) (a .report .now) (p .3) (a .plan .now) (a .lists .now) (p .1) (lay .result .«point_count») (k .result) n (k .ensures) (f .last .0) (f .ensures .0) (f .result) (a .hits .now) (f .last .1 .0) (f .ensures .1 .0 .0) (f .ensures .1 .0 .1) (f .kept .1 .0) _ (f .last .1 .1 .0) (f .ensures .1 .1) (f .kept .1 .1 .0)))
+    sym (length-take-le (f .result) (f .last .1 .0) (hits-in b (p .0) (a .sample .now) (a .register .now) (a .report .now) (p .3) (a .plan .now) (a .lists .now) (p .1) (lay .result) (k .result) n (k .ensures) (f .last .0) (f .ensures .0) (f .result) (a .hits .now) (f .last .1 .0) (f .ensures .1 .0 .0) (f .ensures .1 .0 .1) (f .kept .1 .0) _ (f .last .1 .1 .0) (f .ensures .1 .1) (f .kept .1 .1 .0)))
 
 report-listed-requires : tie.Need-report-listed-requires
 report-listed-requires c κs =
     let a = c .before .before .before .before .before .before .before .before .before .before .before .before .before .before .before .before .before .before .before .before .before .before .before .before .before .before .before .before .args in
     let p = c .before .before .before .before .before .before .before .before .before .before .before .before .before .before .before .before .before .before .before .before .before .before .before .before .before .before .before .before .pre in
     let b = a .t .now in
-    let lay = c .before .before .before .before .before .before .before .before .before .before .before .before .before .before .before .before .before .before .before .before .layout-of in
+    let lay = c .before .before .before .before .before .before .before .before .before .before .before .before .before .before .before .before .before .before .before .before .point-count in
     let k = c .before .before .before .before .before .before .before .before .before .before .before .before .before .before .before .before .before .before .before .element in
-    let n = points-count b (p .0) (lay .result) (lay .ensures .0) in
+    let n = points-total b (p .0) (lay .result) (lay .ensures .0) in
     let f = c .before .before .before .before .before .before .before .before .before .before .before .before .before .before .before .find in
     let q = c .before .before .before .element2 in
-    (report-room b (p .0) (a .sample .now) (a .register .now) (a .report .now) (p .3) (a .plan .now) (a .lists .now) (p .1) (lay .result .«point_count») (k .result) n (k .ensures) (f .last .0) (f .ensures .0) (f .result) (a .hits .now) (f .last .1 .0) (f .ensures .1 .0 .0) (f .ensures .1 .0 .1) (f .kept .1 .0) _ (f .last .1 .1 .0) (f .ensures .1 .1) (f .kept .1 .1 .0) (q .result) (q .ensures), illegals-order b (p .0) (a .sample .now) (a .register .now) (a .report .now) (p .3) (a .plan .now) (a .lists .now) (p .1) (lay .result .«point_count») (k .result) n (k .ensures) (f .last .0) (f .ensures .0) (f .result) (a .hits .now) (f .last .1 .0) (f .ensures .1 .0 .0) (f .ensures .1 .0 .1) (f .kept .1 .0) _ (f .last .1 .1 .0) (f .ensures .1 .1) (f .kept .1 .1 .0) (q .result) (q .ensures), in-order b (p .0) (a .sample .now) (a .register .now) (a .report .now) (p .3) (a .plan .now) (a .lists .now) (p .1) (lay .result .«point_count») (k .result) n (k .ensures) (f .last .0) (f .ensures .0) (f .result) (a .hits .now) (f .last .1 .0) (f .ensures .1 .0 .0) (f .ensures .1 .0 .1) (f .kept .1 .0) _ (f .last .1 .1 .0) (f .ensures .1 .1) (f .kept .1 .1 .0))
+    (report-room b (p .0) (a .sample .now) (a .register .now) (a .report .now) (p .3) (a .plan .now) (a .lists .now) (p .1) (lay .result) (k .result) n (k .ensures) (f .last .0) (f .ensures .0) (f .result) (a .hits .now) (f .last .1 .0) (f .ensures .1 .0 .0) (f .ensures .1 .0 .1) (f .kept .1 .0) _ (f .last .1 .1 .0) (f .ensures .1 .1) (f .kept .1 .1 .0) (q .result) (q .ensures), illegals-order b (p .0) (a .sample .now) (a .register .now) (a .report .now) (p .3) (a .plan .now) (a .lists .now) (p .1) (lay .result) (k .result) n (k .ensures) (f .last .0) (f .ensures .0) (f .result) (a .hits .now) (f .last .1 .0) (f .ensures .1 .0 .0) (f .ensures .1 .0 .1) (f .kept .1 .0) _ (f .last .1 .1 .0) (f .ensures .1 .1) (f .kept .1 .1 .0) (q .result) (q .ensures), in-order b (p .0) (a .sample .now) (a .register .now) (a .report .now) (p .3) (a .plan .now) (a .lists .now) (p .1) (lay .result) (k .result) n (k .ensures) (f .last .0) (f .ensures .0) (f .result) (a .hits .now) (f .last .1 .0) (f .ensures .1 .0 .0) (f .ensures .1 .0 .1) (f .kept .1 .0) _ (f .last .1 .1 .0) (f .ensures .1 .1) (f .kept .1 .1 .0))
 
 same-length : tie.Need-same-length
 same-length c = search needs
@@ -154,20 +154,20 @@ returns c =
     let a = c .before .before .before .before .before .before .before .before .before .before .before .before .before .before .before .before .before .before .before .before .before .before .before .before .before .before .before .before .before .before .before .args in
     let p = c .before .before .before .before .before .before .before .before .before .before .before .before .before .before .before .before .before .before .before .before .before .before .before .before .before .before .before .before .before .before .before .pre in
     let b = a .t .now in
-    let lay = c .before .before .before .before .before .before .before .before .before .before .before .before .before .before .before .before .before .before .before .before .before .before .before .layout-of in
+    let lay = c .before .before .before .before .before .before .before .before .before .before .before .before .before .before .before .before .before .before .before .before .before .before .before .point-count in
     let k = c .before .before .before .before .before .before .before .before .before .before .before .before .before .before .before .before .before .before .before .before .before .before .element in
-    let n = points-count b (p .0) (lay .result) (lay .ensures .0) in
+    let n = points-total b (p .0) (lay .result) (lay .ensures .0) in
     let f = c .before .before .before .before .before .before .before .before .before .before .before .before .before .before .before .before .before .before .find in
     let q = c .before .before .before .before .before .before .element2 in
     let u = c .before .before .before .before .before .before .before .before .before .raise-counts in
     let o = c .before .before .report-listed in
-    (words-written b (p .0) (a .sample .now) (a .register .now) (a .report .now) (p .3) (a .plan .now) (a .lists .now) (p .1) (lay .result .«point_count») (k .result) n (k .ensures) (f .last .0) (f .ensures .0) (f .result) (a .hits .now) (f .last .1 .0) (f .ensures .1 .0 .0) (f .ensures .1 .0 .1) (f .kept .1 .0) _ (f .last .1 .1 .0) (f .ensures .1 .1) (f .kept .1 .1 .0) (u .last .0) (u .ensures), report-written b (p .0) (a .sample .now) (a .register .now) (a .report .now) (p .3) (a .plan .now) (a .lists .now) (p .1) (lay .result .«point_count») (k .result) n (k .ensures) (f .last .0) (f .ensures .0) (f .result) (a .hits .now) (f .last .1 .0) (f .ensures .1 .0 .0) (f .ensures .1 .0 .1) (f .kept .1 .0) _ (f .last .1 .1 .0) (f .ensures .1 .1) (f .kept .1 .1 .0) (q .result) (q .ensures) (o .last .0) (o .ensures))
+    (words-written b (p .0) (a .sample .now) (a .register .now) (a .report .now) (p .3) (a .plan .now) (a .lists .now) (p .1) (lay .result) (k .result) n (k .ensures) (f .last .0) (f .ensures .0) (f .result) (a .hits .now) (f .last .1 .0) (f .ensures .1 .0 .0) (f .ensures .1 .0 .1) (f .kept .1 .0) _ (f .last .1 .1 .0) (f .ensures .1 .1) (f .kept .1 .1 .0) (u .last .0) (u .ensures), report-written b (p .0) (a .sample .now) (a .register .now) (a .report .now) (p .3) (a .plan .now) (a .lists .now) (p .1) (lay .result) (k .result) n (k .ensures) (f .last .0) (f .ensures .0) (f .result) (a .hits .now) (f .last .1 .0) (f .ensures .1 .0 .0) (f .ensures .1 .0 .1) (f .kept .1 .0) _ (f .last .1 .1 .0) (f .ensures .1 .1) (f .kept .1 .1 .0) (q .result) (q .ensures) (o .last .0) (o .ensures))
 
 pub write-planned-spec : {M : Type 1} → statement M
 write-planned-spec =
     tie.close
     (tie.spec
-    layout-of-requires
+    point-count-requires
     element-requires
     cast-k
     slice-aggregate-find

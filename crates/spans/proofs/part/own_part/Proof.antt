@@ -5,18 +5,18 @@ use borrow.Author.Needs.{needs}
 use Rattle.spans.proofs.part.own_part.Statement.{statement}
 use Rattle.spans.proofs.part.own_part.Tie as tie
 
-layout-of-requires : tie.Need-layout-of-requires
-layout-of-requires c κs = search needs
+bin-sections-requires : tie.Need-bin-sections-requires
+bin-sections-requires c κs = search needs
 
 from-first-requires : tie.Need-from-first-requires
 from-first-requires c κs =
-    let l = c .layout-of in
+    let l = c .bin-sections in
     (omega (arith, l .ensures .1 .bins), omega (arith, l .ensures .1 .ranges), omega (arith, bins-few (c .before .before .args .t .now) (l .result) (l .ensures .0), bins-most (c .before .before .args .t .now) (c .before .before .pre)))
 
 to-last-requires : tie.Need-to-last-requires
 to-last-requires c κs =
     let s = c .before .before .before .args .t .now in
-    let l = c .before .layout-of in
+    let l = c .before .bin-sections in
     let o = c .from-first .ensures in
     let few = bins-most s (c .before .before .before .pre) in
     let same = bins-few s (l .result) (l .ensures .0) in
@@ -25,7 +25,7 @@ to-last-requires c κs =
 returns : tie.Need-returns
 returns c =
     let a = c .before .before .before .before .args in
-    let l = c .before .before .layout-of in
+    let l = c .before .before .bin-sections in
     let o = c .before .from-first .ensures in
     let k = c .to-last .ensures in
     let few = bins-most (a .t .now) (c .before .before .before .before .pre) in
@@ -34,4 +34,4 @@ returns c =
 
 pub own-part-spec : {M : Type 1} → statement M
 own-part-spec =
-    tie.close (tie.spec layout-of-requires from-first-requires to-last-requires returns)
+    tie.close (tie.spec bin-sections-requires from-first-requires to-last-requires returns)
