@@ -11,7 +11,9 @@ use Rattle.model.specs.Table.{Table}
 use Rattle.model.specs.Format.{decode, decoded, tableOf}
 use Rattle.model.specs.Register.{counterTotal, Effect, registerTests}
 use Rattle.pieces.specs.Plan.{planNeed}
-use Rattle.lists.specs.Lists as Lists
+use Rattle.runs.specs.Rows.{sequenceRows}
+use Rattle.lists.specs.Lists.{listsNeed}
+use Rattle.samples.specs.Prepared as Plans
 use Rattle.batch.specs.declared.Taken.{Taken}
 use Rattle.batch.specs.Batch.{Batch, inTurn}
 
@@ -22,13 +24,13 @@ pub record Ready (s w : List ℕ) : Type 0 where
 
 -- what is needed of the table is worked out, and there is room for the places that a sample hits
 pub record Prepared (s plan lists : List ℕ) (hits : ℕ) : Type 0 where
-  pub planned : Lists.Ready (tableOf s) plan lists
+  pub planned : Plans.Prepared (tableOf s) plan lists
   pub room : counterTotal (tableOf s) + 256 ≤ hits
 
 -- arrays of so many elements hold the plan and the lists of the table, and the places that a sample hits
 pub record Sized (t : Table) (n m k : ℕ) : Type 0 where
-  pub plan : planNeed t ≤ n
-  pub lists : Lists.listsNeed t ≤ m
+  pub plan : length (sequenceRows t) + planNeed t ≤ n
+  pub lists : listsNeed t ≤ m
   pub hits : counterTotal t + 256 ≤ k
 
 -- a sample's effect: its number, the words and the report

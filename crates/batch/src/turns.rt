@@ -2,18 +2,22 @@
 use crate::Taken;
 use arrays::element;
 use layout::layout_of;
-use lists::put_ready;
+use layout::point_count;
 use register::refusals::own_refusal;
+use samples::prepare::prepare;
 use samples::write::write_planned;
 use sampling::Index;
 use sampling::put_kinds;
 use table::answer::Facts;
 ghost use mathlib.Core.Path.{_≡_};
-ghost use Prim.Native.Nat.{_≤_};
+ghost use mathlib.Core.Bool.{true};
+ghost use Prim.Native.Nat.{_+_, _≤_};
 ghost use lib.ListN.{length};
-ghost use Rattle.model.specs.Format.{tableOf};
+ghost use Rattle.model.specs.Format.{accepted, tableOf};
 ghost use Rattle.model.specs.Register.{call, sample};
 ghost use Rattle.register.specs.Refusals.{Describes};
+ghost use Rattle.pieces.specs.Plan.{planNeed};
+ghost use Rattle.runs.specs.Rows.{sequenceRows};
 ghost use Rattle.sampling.specs.Index.{Roomy, Indexed, Labelled};
 ghost use Rattle.batch.specs.Turns.{Ready, Prepared, Sized, Done, Took, turns, endOf};
 
@@ -101,7 +105,7 @@ fn small(
     let mut plan = [0u64; 1024];
     let mut lists = [0u16; 3178];
     let mut hits = [0u16; 768];
-    put_ready(&mut plan, &mut lists, t, kinds, x);
+    prepare(&mut plan, &mut lists, t, kinds, x);
     each(register, reports, t, s, &plan, &lists, &mut hits)
 }
 
@@ -119,7 +123,7 @@ fn medium(
     let mut plan = [0u64; 6144];
     let mut lists = [0u16; 12418];
     let mut hits = [0u16; 2304];
-    put_ready(&mut plan, &mut lists, t, kinds, x);
+    prepare(&mut plan, &mut lists, t, kinds, x);
     each(register, reports, t, s, &plan, &lists, &mut hits)
 }
 
@@ -134,14 +138,27 @@ fn largest(
     requires { ⌜ Ready (now t) (now register) × Indexed (tableOf (now t)) x × Labelled (tableOf (now t)) (now kinds) ⌝ }
     ensures { λ r. ⌜ Took (turns (now (t .entry)) (tableOf (now (t .entry))) (now (register .entry)) (now (s .entry)) (now (reports .entry))) r (now (register .exit)) (now (reports .exit)) ⌝ }
 {
-    let mut plan = [0u64; 23712];
+    let mut plan = [0u64; 26592];
     let mut lists = [0u16; 28930];
     let mut hits = [0u16; 12672];
-    put_ready(&mut plan, &mut lists, t, kinds, x);
+    prepare(&mut plan, &mut lists, t, kinds, x);
     each(register, reports, t, s, &plan, &lists, &mut hits)
 }
 
-// By the points' counters, how much room the plan needs, and the class.
+// How many words the rows of the sequences and the plan of the values take at most, by the counts of the sections and the points' counters.
+fn room_for(t: &[u8], x: Index) -> usize
+    requires { ⌜ (accepted (now t) ≡ true) × Indexed (tableOf (now t)) x ⌝ }
+    ensures { λ r. ⌜ length (sequenceRows (tableOf (now (t .entry)))) + planNeed (tableOf (now (t .entry))) ≤ r ⌝ }
+{
+    let starts = x.starts;
+    let points = x.points;
+    let l = layout_of(t);
+    let bins = 2 * l.transition_count + 3 * l.sequence_count;
+    let rows = bins + 2 * l.step_count + 4 * l.step_range_count;
+    rows + 11 * l.range_count + 3 * (starts[points] as usize) + 10 * points
+}
+
+// The class. kinds and x are the table's.
 fn classed(
     register: &mut [u32],
     reports: &mut [u32],
@@ -153,11 +170,9 @@ fn classed(
     requires { ⌜ Ready (now t) (now register) × Indexed (tableOf (now t)) x × Labelled (tableOf (now t)) (now kinds) ⌝ }
     ensures { λ r. ⌜ Took (turns (now (t .entry)) (tableOf (now (t .entry))) (now (register .entry)) (now (s .entry)) (now (reports .entry))) r (now (register .exit)) (now (reports .exit)) ⌝ }
 {
-    let starts = x.starts;
     let points = x.points;
     let counters = x.counters;
-    let l = layout_of(t);
-    let need = 11 * l.range_count + 3 * (starts[points] as usize) + 10 * points;
+    let need = room_for(t, x);
     if points <= 4 {
         if counters <= 512 {
             if need <= 1024 {

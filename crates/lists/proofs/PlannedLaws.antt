@@ -17,7 +17,7 @@ use Rattle.arrays.proofs.PutLaws.{front-put}
 use Rattle.pieces.specs.Plan.{ValuesPlan}
 use Rattle.crosses.specs.Marked.{Marked}
 use Rattle.places.specs.Places.{PlaceRows, illegalPlaces}
-use Rattle.lists.specs.Lists.{placesAt, startsAt, illegalsAt, countsAt, marksAt, listsNeed, Planned}
+use Rattle.lists.specs.Lists.{placesAt, startsAt, illegalsAt, countsAt, marksAt, listsNeed, Planned, Ready}
 use Rattle.lists.specs.Stages.{Listed}
 use Rattle.lists.proofs.Fronts.{front-less, front-get, back-front, back-rest}
 use Rattle.lists.proofs.ListLaws.{listed-kept}
@@ -79,21 +79,27 @@ module _ (t : Table) (w b d z : List ℕ) (h : pointTotal t ≤ 16) (e : length 
 
 -- ---- an element that no list has
 
-module _ (t : Table) (w l : List ℕ) (v : ℕ) (few : pointTotal t ≤ 16) (ok : Planned t w l) where
-  beyond : (n : ℕ) → 64 ≤ n → drop n (set l 63 v) ≡ drop n l
-  beyond n h = drop-set-lt n l 63 v (omega arith)
+module _ (t : Table) (w l : List ℕ) (j v : ℕ) (past : 48 < j) (before : j < 64) (few : pointTotal t ≤ 16) (ok : Planned t w l) where
+  beyond : (n : ℕ) → 64 ≤ n → drop n (set l j v) ≡ drop n l
+  beyond n h = drop-set-lt n l j v (omega arith)
 
-  pub planned-set : Planned t w (set l 63 v)
+  pub planned-set : Planned t w (set l j v)
   planned-set =
       let n = pointTotal t in
       record {
-        values = values-kept t w l (set l 63 v) few (λ i k. getD-set-other l 63 i v 0 (λ (e : i ≡ 63). omega arith)) (ok .values);
+        values = values-kept t w l (set l j v) few (λ i k. getD-set-other l j i v 0 (λ (e : i ≡ j). omega arith)) (ok .values);
         origins = subst (Origins t) (sym (beyond 64 (omega arith))) (ok .origins);
         places = subst (PlaceRows t) (sym (beyond (placesAt n) (omega arith))) (ok .places);
         starts = ap (take (n + 1)) (beyond (startsAt n) (omega arith)) ∙ ok .starts;
-        illegals = getD-set-other l 63 (illegalsAt n) v 0 (λ (e : illegalsAt n ≡ 63). omega arith) ∙ ok .illegals;
+        illegals = getD-set-other l j (illegalsAt n) v 0 (λ (e : illegalsAt n ≡ j). omega arith) ∙ ok .illegals;
         illegal = ap (take (length (illegalPlaces t))) (beyond (illegalsAt n + 1) (omega arith)) ∙ ok .illegal;
         counts = ap (take n) (beyond (countsAt t) (omega arith)) ∙ ok .counts;
         marks = subst (Marked t) (sym (beyond (marksAt t) (omega arith))) (ok .marks);
         room = simp length-set (ok .room);
       }
+
+pub ready-set : (t : Table) (w l : List ℕ) (j v : ℕ) → 48 < j → j < 63 → pointTotal t ≤ 16 → Ready t w l → Ready t w (set l j v)
+ready-set t w l j v past before few r = record {
+  planned = planned-set t w l j v past (omega arith) few (r .planned);
+  counters = getD-set-other l j 63 v 0 (λ (e : 63 ≡ j). omega arith) ∙ r .counters;
+}

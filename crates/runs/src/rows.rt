@@ -155,11 +155,11 @@ fn put_bin(plan: &mut [u64], t: &[u8], q: usize, place: Cursor, point: u8, n: u8
     put_rows(plan, t, q, next, n as usize)
 }
 
-// The rows of the transition bins of a table with that layout.
-fn put_bins(plan: &mut [u64], at: usize, t: &[u8], l: Layout)
+// The rows of the transition bins of a table with that layout. Answers where they end.
+fn put_bins(plan: &mut [u64], at: usize, t: &[u8], l: Layout) -> usize
     requires { ⌜ (l .transitions ≤ 16777216) × (l .sequences ≤ 16777216) × (l .steps ≤ 16777216) × (l .«step_ranges» ≤ 16777216) × (l .«transition_count» ≤ 64) ⌝ }
     requires { ⌜ (all binFits (transitionsAt (now t) (l .transitions) (l .sequences) (l .steps) (l .«step_ranges») (l .«transition_count»)) ≡ true) × (at + length (concatOf binRow (transitionsAt (now t) (l .transitions) (l .sequences) (l .steps) (l .«step_ranges») (l .«transition_count»))) ≤ length (now plan)) ⌝ }
-    ensures { λ _. ⌜ now (plan .exit) ≡ put at (concatOf binRow (transitionsAt (now (t .entry)) (l .transitions) (l .sequences) (l .steps) (l .«step_ranges») (l .«transition_count»))) (now (plan .entry)) ⌝ }
+    ensures { λ e. ⌜ (e ≡ at + length (concatOf binRow (transitionsAt (now (t .entry)) (l .transitions) (l .sequences) (l .steps) (l .«step_ranges») (l .«transition_count»)))) × (now (plan .exit) ≡ put at (concatOf binRow (transitionsAt (now (t .entry)) (l .transitions) (l .sequences) (l .steps) (l .«step_ranges») (l .«transition_count»))) (now (plan .entry))) ⌝ }
 {
     let b = l.transitions;
     let n = l.transition_count;
@@ -177,14 +177,14 @@ fn put_bins(plan: &mut [u64], at: usize, t: &[u8], l: Layout)
         sequence += k as usize;
         i += 1;
     }
+    place.at
 }
 
-// The rows of a table's sequences, from at on. Answers how many transition bins it has.
+// The rows of a table's sequences, from at on. Answers where they end.
 pub fn put_sequences(plan: &mut [u64], at: usize, t: &[u8]) -> usize
     requires { ⌜ (accepted (now t) ≡ true) × (at + length (sequenceRows (tableOf (now t))) ≤ length (now plan)) ⌝ }
-    ensures { λ n. ⌜ (n ≡ length (tableOf (now (t .entry)) .transitionBins)) × (now (plan .exit) ≡ put at (sequenceRows (tableOf (now (t .entry)))) (now (plan .entry))) ⌝ }
+    ensures { λ e. ⌜ (e ≡ at + length (sequenceRows (tableOf (now (t .entry))))) × (now (plan .exit) ≡ put at (sequenceRows (tableOf (now (t .entry)))) (now (plan .entry))) ⌝ }
 {
     let l = layout_of(t);
-    put_bins(plan, at, t, l);
-    l.transition_count
+    put_bins(plan, at, t, l)
 }

@@ -8,3 +8,4 @@ pub mod RaiseLaws
 pub mod SeekLaws
 pub mod ReportLaws
 pub mod PlannedWrites
+pub mod PreparedLaws

@@ -2,3 +2,4 @@
 pub mod Adds
 pub mod Writes
 pub mod Raises
+pub mod Prepared

@@ -2,5 +2,6 @@
 pub mod adds;
 pub mod counts;
 pub mod listed;
+pub mod prepare;
 pub mod raises;
 pub mod write;

@@ -5,8 +5,8 @@ use arrays::element;
 use engine::find_hits;
 use layout::point_count;
 use points::readings::read_all;
-use runs::advance::advance_runs;
-use runs::lengths::put_lengths;
+use runs::take::RunPlace;
+use runs::take::take_runs;
 ghost use mathlib.Core.Path.{_≡_};
 ghost use mathlib.Core.Bool.{true};
 ghost use Prim.Native.Nat.{_≤_, _+_, _*_};
@@ -16,7 +16,7 @@ ghost use Rattle.model.specs.Register.{counterTotal, pointTotal, longEnough, in
 ghost use Rattle.arrays.specs.Put.{put};
 ghost use Rattle.arrays.specs.Flat.{readingCodes};
 ghost use Rattle.places.specs.Places.{isSet, placesFrom};
-ghost use Rattle.lists.specs.Lists.{Ready};
+ghost use Rattle.samples.specs.Prepared.{Prepared};
 ghost use Rattle.samples.specs.Writes.{sampleRefusal, runsAfter, flagsAfter};
 
 // Advances the run words and finds the places that the sample hits. Answers how many.
@@ -29,7 +29,7 @@ fn find(
     plan: &[u64],
     lists: &[u16],
 ) -> usize
-    requires { ⌜ (accepted (now t) ≡ true) × Ready (tableOf (now t)) (now plan) (now lists) × (longEnough (tableOf (now t)) (now register) ≡ true) × (inWidths (tableOf (now t)) (now sample) ≡ true) × (length (now sample) ≡ 4 + 2 * pointTotal (tableOf (now t))) × (counterTotal (tableOf (now t)) + 256 ≤ length (now hits)) × (16 ≤ length (now readings)) ⌝ }
+    requires { ⌜ (accepted (now t) ≡ true) × Prepared (tableOf (now t)) (now plan) (now lists) × (longEnough (tableOf (now t)) (now register) ≡ true) × (inWidths (tableOf (now t)) (now sample) ≡ true) × (length (now sample) ≡ 4 + 2 * pointTotal (tableOf (now t))) × (counterTotal (tableOf (now t)) + 256 ≤ length (now hits)) × (16 ≤ length (now readings)) ⌝ }
     ensures { λ _. ⌜ now (register .exit) ≡ put (2 + counterTotal (tableOf (now (t .entry))) + pointTotal (tableOf (now (t .entry)))) (runsAfter (tableOf (now (t .entry))) (now (sample .entry)) (now (register .entry))) (now (register .entry)) ⌝ }
     ensures { λ r. ⌜ (r ≡ length (placesFrom isSet 0 (flagsAfter (tableOf (now (t .entry))) (now (sample .entry)) (now (register .entry))))) × (now (hits .exit) ≡ put 0 (placesFrom isSet 0 (flagsAfter (tableOf (now (t .entry))) (now (sample .entry)) (now (register .entry)))) (now (hits .entry))) ⌝ }
     ensures { λ _. ⌜ now (readings .exit) ≡ put 0 (readingCodes (tableOf (now (t .entry))) (now (sample .entry))) (now (readings .entry)) ⌝ }
@@ -38,10 +38,16 @@ fn find(
     let k = element(lists, 63) as usize;
     let at = 2 + k + n;
     read_all(readings, t, sample);
-    advance_runs(register, at, t, readings);
+    let b = element(lists, 61) as usize;
+    let q = RunPlace {
+        words: at,
+        rows: 0,
+        bins: b,
+    };
     let mut lens = [0u32; 64];
-    put_lengths(&mut lens, t, register, at);
-    find_hits(hits, t, sample, readings, &lens, plan, lists)
+    take_runs(register, &mut lens, t, plan, readings, q);
+    let m = element(lists, 62) as usize;
+    find_hits(hits, t, sample, readings, &lens, &plan[m..], lists)
 }
 
 // What an accepted sample writes, by what was worked out of its table. hits is scratch.
@@ -54,7 +60,7 @@ pub fn write_planned(
     lists: &[u16],
     hits: &mut [u16],
 )
-    requires { ⌜ (accepted (now t) ≡ true) × Ready (tableOf (now t)) (now plan) (now lists) × (counterTotal (tableOf (now t)) + 256 ≤ length (now hits)) × (sampleRefusal (tableOf (now t)) (now sample) (now register) (now report) ≡ 0) ⌝ }
+    requires { ⌜ (accepted (now t) ≡ true) × Prepared (tableOf (now t)) (now plan) (now lists) × (counterTotal (tableOf (now t)) + 256 ≤ length (now hits)) × (sampleRefusal (tableOf (now t)) (now sample) (now register) (now report) ≡ 0) ⌝ }
     ensures { λ _. ⌜ now (register .exit) ≡ sampledWords (tableOf (now (t .entry))) (now (sample .entry)) (now (register .entry)) ⌝ }
     ensures { λ _. ⌜ now (report .exit) ≡ sampledReport (tableOf (now (t .entry))) (now (sample .entry)) (now (register .entry)) (now (report .entry)) ⌝ }
 {

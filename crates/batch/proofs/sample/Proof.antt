@@ -8,11 +8,6 @@ use Rattle.batch.proofs.OneLaws.{register-refuses, wrong-size, one-done
 use borrow.Author.Needs.{needs}
 use Rattle.batch.proofs.sample.Statement.{statement}
 use Rattle.batch.proofs.sample.Tie as tie
-use Rattle.batch.proofs.sample.Reads as reads
-use Rattle.batch.proofs.sample.Lts as lts
-use Rattle.batch.proofs.turns.all.Reads as all-reads
-use Rattle.register.proofs.refusals.register_refusal.Reads as register-refusal-reads
-use Rattle.table.proofs.facts.Reads as facts-reads
 
 facts-requires : tie.Need-facts-requires
 facts-requires c κs = search needs

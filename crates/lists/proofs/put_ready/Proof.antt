@@ -38,7 +38,7 @@ returns c =
     let q = c .before .before .before .before .before .put-planned in
     let t = tableOf (a .t .now) in
     let few = few-points (a .t .now) (p .0) in (
-      record { planned = planned-set t (q .last .0) (q .last .1 .0) (a .x .counters) few (q .ensures .0); counters = getD-set-same (q .last .1 .0) 63 (a .x .counters) 0 (omega (arith, q .ensures .0 .room)) ∙ p .1 .counters },
+      record { planned = planned-set t (q .last .0) (q .last .1 .0) 63 (a .x .counters) (omega arith) (omega arith) few (q .ensures .0); counters = getD-set-same (q .last .1 .0) 63 (a .x .counters) 0 (omega (arith, q .ensures .0 .room)) ∙ p .1 .counters },
       q .ensures .1,
       simp length-set (q .ensures .2),
     )

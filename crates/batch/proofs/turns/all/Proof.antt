@@ -2,10 +2,6 @@ use Rattle.batch.proofs.TurnLaws.{took-none}
 use borrow.Author.Needs.{needs}
 use Rattle.batch.proofs.turns.all.Statement.{statement}
 use Rattle.batch.proofs.turns.all.Tie as tie
-use Rattle.batch.proofs.turns.all.Reads as reads
-use Rattle.batch.proofs.turns.all.Lts as lts
-use Rattle.batch.proofs.turns.few.Reads as few-reads
-use Rattle.batch.proofs.turns.many.Reads as many-reads
 
 returns : tie.Need-returns
 returns c = took-none _ _ _ _ _ (c .if1 .taken)

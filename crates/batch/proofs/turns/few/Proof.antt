@@ -4,10 +4,6 @@ use Rattle.register.proofs.FigureLaws.{known-accepted}
 use borrow.Author.Needs.{needs}
 use Rattle.batch.proofs.turns.few.Statement.{statement}
 use Rattle.batch.proofs.turns.few.Tie as tie
-use Rattle.batch.proofs.turns.few.Reads as reads
-use Rattle.batch.proofs.turns.few.Lts as lts
-use Rattle.batch.proofs.turns.classed.Reads as classed-reads
-use Rattle.sampling.proofs.put_kinds.Reads as put-kinds-reads
 
 slice-aggregate-put-kinds : tie.Need-slice-aggregate-put-kinds
 slice-aggregate-put-kinds c = search needs

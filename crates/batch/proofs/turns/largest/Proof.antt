@@ -4,19 +4,15 @@ use Rattle.batch.proofs.PreparedLaws.{largest-fits}
 use borrow.Author.Needs.{needs}
 use Rattle.batch.proofs.turns.largest.Statement.{statement}
 use Rattle.batch.proofs.turns.largest.Tie as tie
-use Rattle.batch.proofs.turns.largest.Reads as reads
-use Rattle.batch.proofs.turns.largest.Lts as lts
-use Rattle.batch.proofs.turns.each.Reads as each-reads
-use Rattle.lists.proofs.put_ready.Reads as put-ready-reads
 
-slice-aggregate-put-ready : tie.Need-slice-aggregate-put-ready
-slice-aggregate-put-ready c = search needs
+slice-aggregate-prepare : tie.Need-slice-aggregate-prepare
+slice-aggregate-prepare c = search needs
 
-slice-aggregate-put-ready-2 : tie.Need-slice-aggregate-put-ready-2
-slice-aggregate-put-ready-2 c = search needs
+slice-aggregate-prepare-2 : tie.Need-slice-aggregate-prepare-2
+slice-aggregate-prepare-2 c = search needs
 
-put-ready-requires : tie.Need-put-ready-requires
-put-ready-requires c κs =
+prepare-requires : tie.Need-prepare-requires
+prepare-requires c κs =
     let p = c .before .before .before .before .before .before .before .pre in
     let ok = known-accepted _ (p .0 .known) in
     let fits = largest-fits _ ok in
@@ -35,7 +31,7 @@ each-requires : tie.Need-each-requires
 each-requires c κs =
     let p = c .before .before .before .before .before .before .before .before .before .before .before .before .before .before .before .pre in
     let fits = largest-fits _ (known-accepted _ (p .0 .known)) in
-    (p .0, record { planned = c .before .before .before .before .before .before .before .put-ready .ensures .0; room = omega (arith, fits .hits) })
+    (p .0, record { planned = c .before .before .before .before .before .before .before .prepare .ensures .0; room = omega (arith, fits .hits) })
 
 same-length : tie.Need-same-length
 same-length c = search needs
@@ -50,9 +46,9 @@ pub largest-spec : {M : Type 1} → statement M
 largest-spec =
     tie.close
     (tie.spec
-    slice-aggregate-put-ready
-    slice-aggregate-put-ready-2
-    put-ready-requires
+    slice-aggregate-prepare
+    slice-aggregate-prepare-2
+    prepare-requires
     slice-aggregate-each
     slice-aggregate-each-2
     slice-aggregate-each-3

@@ -4,10 +4,6 @@ use Rattle.register.proofs.FigureLaws.{known-accepted}
 use borrow.Author.Needs.{needs}
 use Rattle.batch.proofs.turns.many.Statement.{statement}
 use Rattle.batch.proofs.turns.many.Tie as tie
-use Rattle.batch.proofs.turns.many.Reads as reads
-use Rattle.batch.proofs.turns.many.Lts as lts
-use Rattle.batch.proofs.turns.classed.Reads as classed-reads
-use Rattle.sampling.proofs.put_kinds.Reads as put-kinds-reads
 
 slice-aggregate-put-kinds : tie.Need-slice-aggregate-put-kinds
 slice-aggregate-put-kinds c = search needs

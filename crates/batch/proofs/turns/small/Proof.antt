@@ -3,19 +3,15 @@ use Rattle.register.proofs.FigureLaws.{known-accepted}
 use borrow.Author.Needs.{needs}
 use Rattle.batch.proofs.turns.small.Statement.{statement}
 use Rattle.batch.proofs.turns.small.Tie as tie
-use Rattle.batch.proofs.turns.small.Reads as reads
-use Rattle.batch.proofs.turns.small.Lts as lts
-use Rattle.batch.proofs.turns.each.Reads as each-reads
-use Rattle.lists.proofs.put_ready.Reads as put-ready-reads
 
-slice-aggregate-put-ready : tie.Need-slice-aggregate-put-ready
-slice-aggregate-put-ready c = search needs
+slice-aggregate-prepare : tie.Need-slice-aggregate-prepare
+slice-aggregate-prepare c = search needs
 
-slice-aggregate-put-ready-2 : tie.Need-slice-aggregate-put-ready-2
-slice-aggregate-put-ready-2 c = search needs
+slice-aggregate-prepare-2 : tie.Need-slice-aggregate-prepare-2
+slice-aggregate-prepare-2 c = search needs
 
-put-ready-requires : tie.Need-put-ready-requires
-put-ready-requires c κs =
+prepare-requires : tie.Need-prepare-requires
+prepare-requires c κs =
     let p = c .before .before .before .before .before .before .before .pre in
     (known-accepted _ (p .0 .known), p .1, p .2, omega (arith, p .3 .plan), omega (arith, p .3 .lists))
 
@@ -31,7 +27,7 @@ slice-aggregate-each-3 c = search needs
 each-requires : tie.Need-each-requires
 each-requires c κs =
     let p = c .before .before .before .before .before .before .before .before .before .before .before .before .before .before .before .pre in
-    (p .0, record { planned = c .before .before .before .before .before .before .before .put-ready .ensures .0; room = omega (arith, p .3 .hits) })
+    (p .0, record { planned = c .before .before .before .before .before .before .before .prepare .ensures .0; room = omega (arith, p .3 .hits) })
 
 same-length : tie.Need-same-length
 same-length c = search needs
@@ -46,9 +42,9 @@ pub small-spec : {M : Type 1} → statement M
 small-spec =
     tie.close
     (tie.spec
-    slice-aggregate-put-ready
-    slice-aggregate-put-ready-2
-    put-ready-requires
+    slice-aggregate-prepare
+    slice-aggregate-prepare-2
+    prepare-requires
     slice-aggregate-each
     slice-aggregate-each-2
     slice-aggregate-each-3

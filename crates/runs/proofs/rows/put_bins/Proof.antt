@@ -94,7 +94,7 @@ returns c =
     let a = c .before .before .before .before .args in
     let t = a .l in
     let l = c .before .loop in
-    written-end (a .at) _ (a .plan .now) (l .place .at) (l .plan) _ (l .inv .1) (bins-rows-none (a .t .now) (t .transitions) (t .sequences) (t .steps) (t .«step_ranges») (t .«transition_count») (l .i) (l .sequence) (l .place .steps) (l .place .ranges) (l .inv .0) (omega arith)) .1
+    written-end (a .at) _ (a .plan .now) (l .place .at) (l .plan) _ (l .inv .1) (bins-rows-none (a .t .now) (t .transitions) (t .sequences) (t .steps) (t .«step_ranges») (t .«transition_count») (l .i) (l .sequence) (l .place .steps) (l .place .ranges) (l .inv .0) (omega arith))
 
 pub put-bins-spec : {M : Type 1} → statement M
 put-bins-spec =

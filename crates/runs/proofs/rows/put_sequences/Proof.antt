@@ -1,7 +1,9 @@
 -- `rows::put_sequences` meets its contract. Assumes nothing.
-use mathlib.Core.Path.{ap}
+use mathlib.Core.Path.{ap, _∙_}
+use mathlib.Core.List.{List}
+use Prim.Native.Nat.{ℕ, _+_}
 use lib.ListN.{length}
-use Rattle.runs.proofs.Ready.{few-bins, bins-fit, bins-counted, rows-laid, rows-written}
+use Rattle.runs.proofs.Ready.{few-bins, bins-fit, rows-laid, rows-written}
 use borrow.Author.Needs.{needs}
 use native.Mathlib.Omega.{arith}
 use Rattle.runs.proofs.rows.put_sequences.Statement.{statement}
@@ -31,7 +33,7 @@ returns c =
     let s = a .t .now in
     let l = c .before .before .before .before .layout-of in
     let w = c .before .before .put-bins in
-    (bins-counted s (pre .0) (l .result) (l .ensures .0), rows-written s (pre .0) (l .result) (l .ensures .0) (a .at) (a .plan .now) (w .last .0) (w .ensures))
+    (w .ensures .0 ∙ ap (λ (xs : List ℕ). a .at + length xs) (rows-laid s (pre .0) (l .result) (l .ensures .0)), rows-written s (pre .0) (l .result) (l .ensures .0) (a .at) (a .plan .now) (w .last .0) (w .ensures .1))
 
 pub put-sequences-spec : {M : Type 1} → statement M
 put-sequences-spec = tie.close (tie.spec layout-of-requires put-bins-requires same-length returns)

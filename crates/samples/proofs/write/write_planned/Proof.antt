@@ -38,7 +38,7 @@ slice-reshare-prefix-raise-counts c =
     let k = c .before .before .before .before .before .before .before .before .before .before .element in
     let n = points-total b (p .0) (lay .result) (lay .ensures .0) in
     let f = c .before .before .before .before .before .before .find in
-    hits-in b (p .0) (a .sample .now) (a .register .now) (a .report .now) (p .3) (a .plan .now) (a .lists .now) (p .1) (lay .result) (k .result) n (k .ensures) (f .last .0) (f .ensures .0) (f .result) (a .hits .now) (f .last .1 .0) (f .ensures .1 .0 .0) (f .ensures .1 .0 .1) (f .kept .1 .0) _ (f .last .1 .1 .0) (f .ensures .1 .1) (f .kept .1 .1 .0)
+    hits-in b (p .0) (a .sample .now) (a .register .now) (a .report .now) (p .3) _ (a .lists .now) (p .1 .ready) (lay .result) (k .result) n (k .ensures) (f .last .0) (f .ensures .0) (f .result) (a .hits .now) (f .last .1 .0) (f .ensures .1 .0 .0) (f .ensures .1 .0 .1) (f .kept .1 .0) _ (f .last .1 .1 .0) (f .ensures .1 .1) (f .kept .1 .1 .0)
 
 slice-aggregate-raise-counts : tie.Need-slice-aggregate-raise-counts
 slice-aggregate-raise-counts c =
@@ -49,7 +49,7 @@ slice-aggregate-raise-counts c =
     let k = c .before .before .before .before .before .before .before .before .before .before .before .element in
     let n = points-total b (p .0) (lay .result) (lay .ensures .0) in
     let f = c .before .before .before .before .before .before .before .find in
-    sym (length-take-le (f .result) (f .last .1 .0) (hits-in b (p .0) (a .sample .now) (a .register .now) (a .report .now) (p .3) (a .plan .now) (a .lists .now) (p .1) (lay .result) (k .result) n (k .ensures) (f .last .0) (f .ensures .0) (f .result) (a .hits .now) (f .last .1 .0) (f .ensures .1 .0 .0) (f .ensures .1 .0 .1) (f .kept .1 .0) _ (f .last .1 .1 .0) (f .ensures .1 .1) (f .kept .1 .1 .0)))
+    sym (length-take-le (f .result) (f .last .1 .0) (hits-in b (p .0) (a .sample .now) (a .register .now) (a .report .now) (p .3) _ (a .lists .now) (p .1 .ready) (lay .result) (k .result) n (k .ensures) (f .last .0) (f .ensures .0) (f .result) (a .hits .now) (f .last .1 .0) (f .ensures .1 .0 .0) (f .ensures .1 .0 .1) (f .kept .1 .0) _ (f .last .1 .1 .0) (f .ensures .1 .1) (f .kept .1 .1 .0)))
 
 slice-aggregate-raise-counts-2 : tie.Need-slice-aggregate-raise-counts-2
 slice-aggregate-raise-counts-2 c = search needs
@@ -63,7 +63,7 @@ raise-counts-requires c κs =
     let k = c .before .before .before .before .before .before .before .before .before .before .before .before .element in
     let n = points-total b (p .0) (lay .result) (lay .ensures .0) in
     let f = c .before .before .before .before .before .before .before .before .find in
-    (countable b (p .0) (a .sample .now) (a .register .now) (a .report .now) (p .3) (a .plan .now) (a .lists .now) (p .1) (lay .result) (k .result) n (k .ensures) (f .last .0) (f .ensures .0) (f .result) (a .hits .now) (f .last .1 .0) (f .ensures .1 .0 .0) (f .ensures .1 .0 .1) (f .kept .1 .0) _ (f .last .1 .1 .0) (f .ensures .1 .1) (f .kept .1 .1 .0), codes-in b (p .0) (a .sample .now) (a .register .now) (a .report .now) (p .3) (a .plan .now) (a .lists .now) (p .1) (lay .result) (k .result) n (k .ensures) (f .last .0) (f .ensures .0) (f .result) (a .hits .now) (f .last .1 .0) (f .ensures .1 .0 .0) (f .ensures .1 .0 .1) (f .kept .1 .0) _ (f .last .1 .1 .0) (f .ensures .1 .1) (f .kept .1 .1 .0), in-order b (p .0) (a .sample .now) (a .register .now) (a .report .now) (p .3) (a .plan .now) (a .lists .now) (p .1) (lay .result) (k .result) n (k .ensures) (f .last .0) (f .ensures .0) (f .result) (a .hits .now) (f .last .1 .0) (f .ensures .1 .0 .0) (f .ensures .1 .0 .1) (f .kept .1 .0) _ (f .last .1 .1 .0) (f .ensures .1 .1) (f .kept .1 .1 .0), counted b (p .0) (a .sample .now) (a .register .now) (a .report .now) (p .3) (a .plan .now) (a .lists .now) (p .1) (lay .result) (k .result) n (k .ensures) (f .last .0) (f .ensures .0) (f .result) (a .hits .now) (f .last .1 .0) (f .ensures .1 .0 .0) (f .ensures .1 .0 .1) (f .kept .1 .0) _ (f .last .1 .1 .0) (f .ensures .1 .1) (f .kept .1 .1 .0))
+    (countable b (p .0) (a .sample .now) (a .register .now) (a .report .now) (p .3) _ (a .lists .now) (p .1 .ready) (lay .result) (k .result) n (k .ensures) (f .last .0) (f .ensures .0) (f .result) (a .hits .now) (f .last .1 .0) (f .ensures .1 .0 .0) (f .ensures .1 .0 .1) (f .kept .1 .0) _ (f .last .1 .1 .0) (f .ensures .1 .1) (f .kept .1 .1 .0), codes-in b (p .0) (a .sample .now) (a .register .now) (a .report .now) (p .3) _ (a .lists .now) (p .1 .ready) (lay .result) (k .result) n (k .ensures) (f .last .0) (f .ensures .0) (f .result) (a .hits .now) (f .last .1 .0) (f .ensures .1 .0 .0) (f .ensures .1 .0 .1) (f .kept .1 .0) _ (f .last .1 .1 .0) (f .ensures .1 .1) (f .kept .1 .1 .0), in-order b (p .0) (a .sample .now) (a .register .now) (a .report .now) (p .3) _ (a .lists .now) (p .1 .ready) (lay .result) (k .result) n (k .ensures) (f .last .0) (f .ensures .0) (f .result) (a .hits .now) (f .last .1 .0) (f .ensures .1 .0 .0) (f .ensures .1 .0 .1) (f .kept .1 .0) _ (f .last .1 .1 .0) (f .ensures .1 .1) (f .kept .1 .1 .0), counted b (p .0) (a .sample .now) (a .register .now) (a .report .now) (p .3) _ (a .lists .now) (p .1 .ready) (lay .result) (k .result) n (k .ensures) (f .last .0) (f .ensures .0) (f .result) (a .hits .now) (f .last .1 .0) (f .ensures .1 .0 .0) (f .ensures .1 .0 .1) (f .kept .1 .0) _ (f .last .1 .1 .0) (f .ensures .1 .1) (f .kept .1 .1 .0))
 
 mul-at : tie.Need-mul-at
 mul-at c = search needs
@@ -104,7 +104,7 @@ part-report-listed-end c =
     let k = c .before .before .before .before .before .before .before .before .before .before .before .before .before .before .before .before .before .element in
     let n = points-total b (p .0) (lay .result) (lay .ensures .0) in
     let f = c .before .before .before .before .before .before .before .before .before .before .before .before .before .find in
-    omega (arith, illegals-in b (p .0) (a .sample .now) (a .register .now) (a .report .now) (p .3) (a .plan .now) (a .lists .now) (p .1) (lay .result) (k .result) n (k .ensures) (f .last .0) (f .ensures .0) (f .result) (a .hits .now) (f .last .1 .0) (f .ensures .1 .0 .0) (f .ensures .1 .0 .1) (f .kept .1 .0) _ (f .last .1 .1 .0) (f .ensures .1 .1) (f .kept .1 .1 .0) (c .before .element2 .result) (c .before .element2 .ensures))
+    omega (arith, illegals-in b (p .0) (a .sample .now) (a .register .now) (a .report .now) (p .3) _ (a .lists .now) (p .1 .ready) (lay .result) (k .result) n (k .ensures) (f .last .0) (f .ensures .0) (f .result) (a .hits .now) (f .last .1 .0) (f .ensures .1 .0 .0) (f .ensures .1 .0 .1) (f .kept .1 .0) _ (f .last .1 .1 .0) (f .ensures .1 .1) (f .kept .1 .1 .0) (c .before .element2 .result) (c .before .element2 .ensures))
 
 slice-reshare-prefix-report-listed : tie.Need-slice-reshare-prefix-report-listed
 slice-reshare-prefix-report-listed c =
@@ -115,7 +115,7 @@ slice-reshare-prefix-report-listed c =
     let k = c .before .before .before .before .before .before .before .before .before .before .before .before .before .before .before .before .before .before .element in
     let n = points-total b (p .0) (lay .result) (lay .ensures .0) in
     let f = c .before .before .before .before .before .before .before .before .before .before .before .before .before .before .find in
-    hits-in b (p .0) (a .sample .now) (a .register .now) (a .report .now) (p .3) (a .plan .now) (a .lists .now) (p .1) (lay .result) (k .result) n (k .ensures) (f .last .0) (f .ensures .0) (f .result) (a .hits .now) (f .last .1 .0) (f .ensures .1 .0 .0) (f .ensures .1 .0 .1) (f .kept .1 .0) _ (f .last .1 .1 .0) (f .ensures .1 .1) (f .kept .1 .1 .0)
+    hits-in b (p .0) (a .sample .now) (a .register .now) (a .report .now) (p .3) _ (a .lists .now) (p .1 .ready) (lay .result) (k .result) n (k .ensures) (f .last .0) (f .ensures .0) (f .result) (a .hits .now) (f .last .1 .0) (f .ensures .1 .0 .0) (f .ensures .1 .0 .1) (f .kept .1 .0) _ (f .last .1 .1 .0) (f .ensures .1 .1) (f .kept .1 .1 .0)
 
 slice-aggregate-report-listed : tie.Need-slice-aggregate-report-listed
 slice-aggregate-report-listed c =
@@ -126,7 +126,7 @@ slice-aggregate-report-listed c =
     let k = c .before .before .before .before .before .before .before .before .before .before .before .before .before .before .before .before .before .before .before .element in
     let n = points-total b (p .0) (lay .result) (lay .ensures .0) in
     let f = c .before .before .before .before .before .before .before .before .before .before .before .before .before .before .before .find in
-    sym (length-take-le (f .result) (f .last .1 .0) (hits-in b (p .0) (a .sample .now) (a .register .now) (a .report .now) (p .3) (a .plan .now) (a .lists .now) (p .1) (lay .result) (k .result) n (k .ensures) (f .last .0) (f .ensures .0) (f .result) (a .hits .now) (f .last .1 .0) (f .ensures .1 .0 .0) (f .ensures .1 .0 .1) (f .kept .1 .0) _ (f .last .1 .1 .0) (f .ensures .1 .1) (f .kept .1 .1 .0)))
+    sym (length-take-le (f .result) (f .last .1 .0) (hits-in b (p .0) (a .sample .now) (a .register .now) (a .report .now) (p .3) _ (a .lists .now) (p .1 .ready) (lay .result) (k .result) n (k .ensures) (f .last .0) (f .ensures .0) (f .result) (a .hits .now) (f .last .1 .0) (f .ensures .1 .0 .0) (f .ensures .1 .0 .1) (f .kept .1 .0) _ (f .last .1 .1 .0) (f .ensures .1 .1) (f .kept .1 .1 .0)))
 
 report-listed-requires : tie.Need-report-listed-requires
 report-listed-requires c κs =
@@ -138,7 +138,7 @@ report-listed-requires c κs =
     let n = points-total b (p .0) (lay .result) (lay .ensures .0) in
     let f = c .before .before .before .before .before .before .before .before .before .before .before .before .before .before .before .find in
     let q = c .before .before .before .element2 in
-    (report-room b (p .0) (a .sample .now) (a .register .now) (a .report .now) (p .3) (a .plan .now) (a .lists .now) (p .1) (lay .result) (k .result) n (k .ensures) (f .last .0) (f .ensures .0) (f .result) (a .hits .now) (f .last .1 .0) (f .ensures .1 .0 .0) (f .ensures .1 .0 .1) (f .kept .1 .0) _ (f .last .1 .1 .0) (f .ensures .1 .1) (f .kept .1 .1 .0) (q .result) (q .ensures), illegals-order b (p .0) (a .sample .now) (a .register .now) (a .report .now) (p .3) (a .plan .now) (a .lists .now) (p .1) (lay .result) (k .result) n (k .ensures) (f .last .0) (f .ensures .0) (f .result) (a .hits .now) (f .last .1 .0) (f .ensures .1 .0 .0) (f .ensures .1 .0 .1) (f .kept .1 .0) _ (f .last .1 .1 .0) (f .ensures .1 .1) (f .kept .1 .1 .0) (q .result) (q .ensures), in-order b (p .0) (a .sample .now) (a .register .now) (a .report .now) (p .3) (a .plan .now) (a .lists .now) (p .1) (lay .result) (k .result) n (k .ensures) (f .last .0) (f .ensures .0) (f .result) (a .hits .now) (f .last .1 .0) (f .ensures .1 .0 .0) (f .ensures .1 .0 .1) (f .kept .1 .0) _ (f .last .1 .1 .0) (f .ensures .1 .1) (f .kept .1 .1 .0))
+    (report-room b (p .0) (a .sample .now) (a .register .now) (a .report .now) (p .3) _ (a .lists .now) (p .1 .ready) (lay .result) (k .result) n (k .ensures) (f .last .0) (f .ensures .0) (f .result) (a .hits .now) (f .last .1 .0) (f .ensures .1 .0 .0) (f .ensures .1 .0 .1) (f .kept .1 .0) _ (f .last .1 .1 .0) (f .ensures .1 .1) (f .kept .1 .1 .0) (q .result) (q .ensures), illegals-order b (p .0) (a .sample .now) (a .register .now) (a .report .now) (p .3) _ (a .lists .now) (p .1 .ready) (lay .result) (k .result) n (k .ensures) (f .last .0) (f .ensures .0) (f .result) (a .hits .now) (f .last .1 .0) (f .ensures .1 .0 .0) (f .ensures .1 .0 .1) (f .kept .1 .0) _ (f .last .1 .1 .0) (f .ensures .1 .1) (f .kept .1 .1 .0) (q .result) (q .ensures), in-order b (p .0) (a .sample .now) (a .register .now) (a .report .now) (p .3) _ (a .lists .now) (p .1 .ready) (lay .result) (k .result) n (k .ensures) (f .last .0) (f .ensures .0) (f .result) (a .hits .now) (f .last .1 .0) (f .ensures .1 .0 .0) (f .ensures .1 .0 .1) (f .kept .1 .0) _ (f .last .1 .1 .0) (f .ensures .1 .1) (f .kept .1 .1 .0))
 
 same-length : tie.Need-same-length
 same-length c = search needs
@@ -161,7 +161,7 @@ returns c =
     let q = c .before .before .before .before .before .before .element2 in
     let u = c .before .before .before .before .before .before .before .before .before .raise-counts in
     let o = c .before .before .report-listed in
-    (words-written b (p .0) (a .sample .now) (a .register .now) (a .report .now) (p .3) (a .plan .now) (a .lists .now) (p .1) (lay .result) (k .result) n (k .ensures) (f .last .0) (f .ensures .0) (f .result) (a .hits .now) (f .last .1 .0) (f .ensures .1 .0 .0) (f .ensures .1 .0 .1) (f .kept .1 .0) _ (f .last .1 .1 .0) (f .ensures .1 .1) (f .kept .1 .1 .0) (u .last .0) (u .ensures), report-written b (p .0) (a .sample .now) (a .register .now) (a .report .now) (p .3) (a .plan .now) (a .lists .now) (p .1) (lay .result) (k .result) n (k .ensures) (f .last .0) (f .ensures .0) (f .result) (a .hits .now) (f .last .1 .0) (f .ensures .1 .0 .0) (f .ensures .1 .0 .1) (f .kept .1 .0) _ (f .last .1 .1 .0) (f .ensures .1 .1) (f .kept .1 .1 .0) (q .result) (q .ensures) (o .last .0) (o .ensures))
+    (words-written b (p .0) (a .sample .now) (a .register .now) (a .report .now) (p .3) _ (a .lists .now) (p .1 .ready) (lay .result) (k .result) n (k .ensures) (f .last .0) (f .ensures .0) (f .result) (a .hits .now) (f .last .1 .0) (f .ensures .1 .0 .0) (f .ensures .1 .0 .1) (f .kept .1 .0) _ (f .last .1 .1 .0) (f .ensures .1 .1) (f .kept .1 .1 .0) (u .last .0) (u .ensures), report-written b (p .0) (a .sample .now) (a .register .now) (a .report .now) (p .3) _ (a .lists .now) (p .1 .ready) (lay .result) (k .result) n (k .ensures) (f .last .0) (f .ensures .0) (f .result) (a .hits .now) (f .last .1 .0) (f .ensures .1 .0 .0) (f .ensures .1 .0 .1) (f .kept .1 .0) _ (f .last .1 .1 .0) (f .ensures .1 .1) (f .kept .1 .1 .0) (q .result) (q .ensures) (o .last .0) (o .ensures))
 
 pub write-planned-spec : {M : Type 1} → statement M
 write-planned-spec =
