@@ -121,7 +121,13 @@ pub fn growing(
 /// The growing shapes of all benches.
 pub fn grown(measured: &mut dyn FnMut(&Shape) -> f64) {
     growing(&[30, 500], 2, shapes::patterns, &mut *measured);
-    growing(&[60, 225, 450, 900], 2, shapes::touching_spans, measured);
+    growing(
+        &[60, 225, 450, 900],
+        2,
+        shapes::touching_spans,
+        &mut *measured,
+    );
+    growing(&[60, 225, 450, 900], 2, shapes::spans_apart, measured);
 }
 
 /// Most rounds of a measurement, and the time that the library's part of all of

@@ -161,16 +161,28 @@ pub fn patterns(count: i64) -> Shape {
     Shape::new(&name, with_crosses(all, leaf), spread(64))
 }
 
-/// 32 bins that overlap, an ignore bin of this many spans that touch, and 512
-/// `intersect` leaves of which nothing is left: whoever walks all spans for each
-/// span, bin and leaf takes half a minute at 900.
-pub fn touching_spans(count: i64) -> Shape {
-    let spans: Vec<Range> = (0..count).map(|i| Range::Span(2 * i, 2 * i + 1)).collect();
+/// 32 bins that overlap, an ignore bin of this many spans of two values, each
+/// beginning `stride` after the one before, and 512 `intersect` leaves: whoever
+/// walks all spans for each span, bin and leaf takes half a minute at 900.
+fn many_spans(name: &str, count: i64, stride: i64) -> Shape {
+    let spans: Vec<Range> = (0..count)
+        .map(|i| Range::Span(stride * i, stride * i + 1))
+        .collect();
     let mut bins: Vec<ValueBin> = (0..32)
         .map(|i| ValueBin::cover(0, &[Range::Span(i, 5_000 + i)]))
         .collect();
     bins.push(ValueBin::ignore(0, &spans));
-    let leaf = |i: i64| Select::meets(0, i % 7, 2 * count - 1 - i % 5);
+    let leaf = |i: i64| Select::meets(0, i % 7, stride * count - 1 - i % 5);
     let table = with_crosses(bins, leaf);
-    Shape::new(&format!("{count} touching spans"), table, [3_000, 4_000])
+    Shape::new(&format!("{count} {name}"), table, [3_000, 4_000])
+}
+
+/// Spans that touch, so that nothing is left for the leaves.
+pub fn touching_spans(count: i64) -> Shape {
+    many_spans("touching spans", count, 2)
+}
+
+/// Spans with a value between any two, so that none can be joined.
+pub fn spans_apart(count: i64) -> Shape {
+    many_spans("spans apart", count, 3)
 }

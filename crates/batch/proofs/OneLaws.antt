@@ -15,9 +15,9 @@ use Rattle.model.specs.Format.{tableOf}
 use Rattle.model.specs.Register.{pointTotal, illegalTotal, Effect, sample, sampleTests, callTests, refuse, call}
 use Rattle.table.specs.declared.answer.Facts.{Facts}
 use Rattle.table.specs.Check.{factsOf}
-use Rattle.register.specs.Refusals.{RegisterRefusal}
-use Rattle.register.proofs.RefusalLaws.{after-stop, after-on}
-use Rattle.register.proofs.CallLaws.{table-known, tests-refuse}
+use Rattle.refusals.specs.Refusals.{RegisterRefusal}
+use Rattle.refusals.proofs.RefusalLaws.{after-stop, after-on}
+use Rattle.refusals.proofs.CallLaws.{table-known, tests-refuse}
 use Rattle.batch.specs.declared.Taken.{Taken}
 use Rattle.batch.specs.Batch.{Batch, ended, sampleSize, andThen}
 use Rattle.batch.specs.Turns.{Done, Took, turns}

@@ -17,7 +17,7 @@ use Rattle.lists.proofs.SizeLaws.{lists-size, lists-most}
 use Rattle.runs.specs.Rows.{sequenceRows}
 use Rattle.runs.proofs.RowSizes.{rows-few, rows-counted}
 use Rattle.layout.proofs.PlaceLaws.{points-total}
-use Rattle.register.proofs.FigureLaws.{known-accepted}
+use Rattle.refusals.proofs.CallLaws.{known-accepted}
 use Rattle.pieces.specs.Plan.{planNeed}
 use Rattle.pieces.proofs.PlanTurns.{plan-need}
 use Rattle.sampling.specs.declared.Index.{Index}

@@ -16,8 +16,8 @@ use Rattle.model.specs.Format.{Outcome, decode, decoded, tableOf}
 use Rattle.model.specs.Register.{pointTotal, wordsNeeded, illegalTotal, longEnough, consistent, registerTests, sampleTests, callTests, sampledWords, sampledReport, sample, Effect, accept, perform, onTable, onOutcome, call}
 use Rattle.model.proofs.Lists.{first-passed}
 use Rattle.arrays.proofs.PutLaws.{put-zero}
-use Rattle.register.specs.Refusals.{ownRefusal}
-use Rattle.register.proofs.SampleLaws.{own-by}
+use Rattle.refusals.specs.Refusals.{ownRefusal}
+use Rattle.refusals.proofs.SampleLaws.{own-by}
 use Rattle.samples.specs.Writes.{reportOf, flagsAfter}
 use Rattle.samples.proofs.Passed.{all-passed}
 use Rattle.samples.proofs.WriteLaws.{report-length, report-exact}

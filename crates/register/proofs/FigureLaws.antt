@@ -11,7 +11,7 @@ use lib.Ieee.{Float}
 use borrow.Author.Tests.{le-leb}
 use Rattle.model.specs.Table.{Table}
 use Rattle.model.specs.Figures.{itemCount}
-use Rattle.model.specs.Format.{decoded, decode, isDecoded, accepted, tableOf}
+use Rattle.model.specs.Format.{decoded, decode, tableOf}
 use Rattle.model.specs.Register.{wordsNeeded, longEnough, percent, millionths}
 use Rattle.model.proofs.RawExact.{many-points, many-crosses}
 use Rattle.layout.specs.Places.{layoutOf}
@@ -19,12 +19,9 @@ use Rattle.layout.specs.declared.Layout.{Layout}
 use Rattle.figures.specs.Figures.{figureCase, groupCase}
 use Rattle.table.specs.declared.answer.Facts.{Facts}
 use Rattle.register.specs.Answers.{itemAnswer, groupAnswer}
-use Rattle.register.specs.Refusals.{Describes, wordsOf}
-use Rattle.register.proofs.RefusalLaws.{words-by}
-
-pub known-accepted : (s : List ℕ) → decode s ≡ decoded (tableOf s) → accepted s ≡ true
-unfolding accepted
-known-accepted s e = ap isDecoded e
+use Rattle.refusals.specs.Refusals.{Describes, wordsOf}
+use Rattle.refusals.proofs.RefusalLaws.{words-by}
+use Rattle.refusals.proofs.CallLaws.{known-accepted}
 
 pub known-long : (f : Facts) (t : Table) (w : List ℕ) → Describes f t → wordsOf f ≤ length w → longEnough t w ≡ true
 known-long f t w d h = le-leb (wordsNeeded t) (length w) (omega (arith, words-by f w t d))

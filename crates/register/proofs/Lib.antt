@@ -1,6 +1,2 @@
-pub mod Loops
-pub mod RefusalLaws
-pub mod SampleLaws
-pub mod CallLaws
 pub mod FigureLaws
 pub mod WordLaws

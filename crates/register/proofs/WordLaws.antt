@@ -13,8 +13,8 @@ use Rattle.model.specs.Register.{pointTotal, counterTotal, wordsNeeded, countsO
 use Rattle.arrays.specs.Put.{put}
 use Rattle.arrays.proofs.PutLaws.{put-zero, put-cons}
 use Rattle.table.specs.declared.answer.Facts.{Facts}
-use Rattle.register.specs.Refusals.{Describes, wordsOf}
-use Rattle.register.proofs.RefusalLaws.{words-by}
+use Rattle.refusals.specs.Refusals.{Describes, wordsOf}
+use Rattle.refusals.proofs.RefusalLaws.{words-by}
 
 -- ---- writes, on plain numbers
 

@@ -1,18 +1,17 @@
 // The calls on a register: the table's bytes and the register's words as they are lent. Each answers with a refusal number, 0 if the call is accepted;
 // a refused call writes nothing.
-pub mod refusals;
 mod zeros;
 
-use crate::refusals::counter_refusal;
-use crate::refusals::item_refusal;
-use crate::refusals::register_refusal;
-use crate::refusals::reset_refusal;
-use crate::refusals::start_refusal;
-use crate::refusals::unknown_refusal;
 use crate::zeros::run;
 use figures::Figure;
 use figures::GroupFigure;
 use layout::layout_of;
+use refusals::counter_refusal;
+use refusals::item_refusal;
+use refusals::register_refusal;
+use refusals::reset_refusal;
+use refusals::start_refusal;
+use refusals::unknown_refusal;
 use table::facts;
 ghost use mathlib.Core.Path.{_≡_};
 ghost use Rattle.model.specs.Register as Model;

@@ -2,7 +2,7 @@ use Prim.Native.Nat.{ℕ, _+_, _*_}
 use mathlib.Core.Path.{sym, ap, _∙_}
 use Rattle.model.specs.Register.{Effect}
 use Rattle.model.specs.Register as Model
-use Rattle.register.proofs.CallLaws.{table-refuses, table-known}
+use Rattle.refusals.proofs.CallLaws.{table-refuses, table-known}
 use Rattle.batch.proofs.TopLaws.{ready-first}
 use Rattle.batch.proofs.OneLaws.{register-refuses, wrong-size, one-done}
 use borrow.Author.Needs.{needs}

@@ -1,8 +1,8 @@
 use mathlib.Core.Path.{sym, ap, _∙_}
 use Rattle.model.specs.Register.{Effect, callTests, accept, askGroup}
 use Rattle.register.specs.Answers.{groupAnswer}
-use Rattle.register.proofs.CallLaws.{table-refuses, table-known, tests-refuse, tests-accept}
-use Rattle.register.proofs.FigureLaws.{known-accepted, known-long, group-answer}
+use Rattle.refusals.proofs.CallLaws.{table-refuses, table-known, tests-refuse, tests-accept, known-accepted}
+use Rattle.register.proofs.FigureLaws.{known-long, group-answer}
 use borrow.Author.Needs.{needs}
 use Rattle.register.proofs.group_figure.Statement.{statement}
 use Rattle.register.proofs.group_figure.Tie as tie

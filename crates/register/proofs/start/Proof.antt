@@ -1,7 +1,7 @@
 use mathlib.Core.Path.{sym, ap, _∙_}
 use native.Mathlib.Omega.{arith}
 use Rattle.model.specs.Register.{Effect, accept, start}
-use Rattle.register.proofs.CallLaws.{call-refused, call-accepted}
+use Rattle.refusals.proofs.CallLaws.{call-refused, call-accepted}
 use Rattle.register.proofs.WordLaws.{start-runs, start-stopped, restart-words}
 use borrow.Author.Needs.{needs}
 use Rattle.register.proofs.start.Statement.{statement}

@@ -3,7 +3,7 @@ use Prim.Native.Nat.{_≤_}
 use lib.ListN.{length}
 use native.Mathlib.Omega.{arith}
 use Rattle.model.specs.Register.{Effect, accept, stop}
-use Rattle.register.proofs.CallLaws.{stop-start, call-refused, call-accepted}
+use Rattle.refusals.proofs.CallLaws.{stop-start, call-refused, call-accepted}
 use Rattle.register.proofs.WordLaws.{stop-words}
 use borrow.Author.Needs.{needs}
 use Rattle.register.proofs.stop.Statement.{statement}

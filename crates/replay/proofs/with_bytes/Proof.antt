@@ -1,6 +1,6 @@
 use borrow.Author.Needs.{needs}
-use Rattle.register.proofs.CallLaws.{table-known}
-use Rattle.register.proofs.FigureLaws.{known-accepted}
+use Rattle.refusals.proofs.CallLaws.{table-known}
+use Rattle.refusals.proofs.CallLaws.{known-accepted}
 use Rattle.replay.proofs.with_bytes.Statement.{statement}
 use Rattle.replay.proofs.with_bytes.Tie as tie
 

@@ -1,4 +1,4 @@
-use Rattle.register.proofs.FigureLaws.{known-accepted}
+use Rattle.refusals.proofs.CallLaws.{known-accepted}
 use Rattle.batch.proofs.PreparedLaws.{small-fits, medium-fits}
 use borrow.Author.Needs.{needs}
 use Rattle.batch.proofs.turns.classed.Statement.{statement}

@@ -1,6 +1,6 @@
 use native.Mathlib.Omega.{arith}
 use Rattle.sampling.proofs.Joins.{labelled}
-use Rattle.register.proofs.FigureLaws.{known-accepted}
+use Rattle.refusals.proofs.CallLaws.{known-accepted}
 use borrow.Author.Needs.{needs}
 use Rattle.batch.proofs.turns.few.Statement.{statement}
 use Rattle.batch.proofs.turns.few.Tie as tie

@@ -1,5 +1,5 @@
 use native.Mathlib.Omega.{arith}
-use Rattle.register.proofs.FigureLaws.{known-accepted}
+use Rattle.refusals.proofs.CallLaws.{known-accepted}
 use Rattle.batch.proofs.PreparedLaws.{largest-fits}
 use borrow.Author.Needs.{needs}
 use Rattle.batch.proofs.turns.largest.Statement.{statement}

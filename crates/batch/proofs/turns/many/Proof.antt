@@ -1,6 +1,6 @@
 use native.Mathlib.Omega.{arith}
 use Rattle.sampling.proofs.Joins.{labelled, largest-room}
-use Rattle.register.proofs.FigureLaws.{known-accepted}
+use Rattle.refusals.proofs.CallLaws.{known-accepted}
 use borrow.Author.Needs.{needs}
 use Rattle.batch.proofs.turns.many.Statement.{statement}
 use Rattle.batch.proofs.turns.many.Tie as tie

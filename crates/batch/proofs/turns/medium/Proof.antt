@@ -1,5 +1,5 @@
 use native.Mathlib.Omega.{arith}
-use Rattle.register.proofs.FigureLaws.{known-accepted}
+use Rattle.refusals.proofs.CallLaws.{known-accepted}
 use borrow.Author.Needs.{needs}
 use Rattle.batch.proofs.turns.medium.Statement.{statement}
 use Rattle.batch.proofs.turns.medium.Tie as tie

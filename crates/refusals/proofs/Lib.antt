@@ -1,0 +1,4 @@
+pub mod Loops
+pub mod RefusalLaws
+pub mod SampleLaws
+pub mod CallLaws
