@@ -1,1 +1,1 @@
-mod SampleLaws
+mod BatchLaws

@@ -1,12 +1,11 @@
 // Replays a log of samples over a register and writes what it covered.
 mod entries;
-mod report;
 
-use crate::entries::Log;
-use crate::entries::UNREAD;
 use crate::entries::take_all;
-use crate::report::say_ending;
-use crate::report::say_report;
+use log::Log;
+use log::UNREAD;
+use report::ending::say_ending;
+use report::say_report;
 use sampling::put_kinds;
 use streams::errors::cannot_read;
 use streams::files::fill;

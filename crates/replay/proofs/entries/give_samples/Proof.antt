@@ -10,8 +10,8 @@ use Rattle.arrays.proofs.PutLaws.{front-put}
 use Rattle.batch.specs.declared.Taken.{Taken}
 use Rattle.batch.specs.Batch.{batch}
 use Rattle.batch.specs.Turns.{Took}
-use Rattle.replay.specs.Log.{samplesIn}
-use Rattle.replay.proofs.SampleLaws.{batch-few}
+use Rattle.log.specs.Samples.{samplesIn}
+use Rattle.replay.proofs.BatchLaws.{batch-few}
 use Rattle.replay.proofs.entries.give_samples.Statement.{statement}
 use Rattle.replay.proofs.entries.give_samples.Tie as tie
 

@@ -2,7 +2,7 @@ use mathlib.Core.Path.{_≡_}
 use Prim.Native.Nat.{_-_}
 use lib.ListN.{length}
 use borrow.Author.Needs.{needs}
-use Rattle.replay.specs.Held.{Held}
+use Rattle.log.specs.Held.{Held}
 use Rattle.replay.proofs.entries.take_entries.Statement.{statement}
 use Rattle.replay.proofs.entries.take_entries.Tie as tie
 
