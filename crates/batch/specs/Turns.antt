@@ -1,6 +1,6 @@
 -- What the code's parts say.
 -- Assumes nothing.
-use Prim.Native.Nat.{ℕ, _+_, _-_, _≤_}
+use Prim.Native.Nat.{ℕ, _+_, _*_, _-_, _≤_}
 use mathlib.Core.Path.{_≡_}
 use mathlib.Core.Bool.{cond}
 use mathlib.Core.List.{List, _++_}
@@ -10,8 +10,11 @@ use Rattle.model.specs.Lists.{firstFailed}
 use Rattle.model.specs.Table.{Table}
 use Rattle.model.specs.Format.{decode, decoded, tableOf}
 use Rattle.model.specs.Register.{counterTotal, Effect, registerTests}
+use Rattle.layout.specs.declared.Layout.{Layout}
 use Rattle.pieces.specs.Plan.{planNeed}
 use Rattle.runs.specs.Rows.{sequenceRows}
+use Rattle.sampling.specs.declared.Index.{Index}
+use Rattle.sampling.specs.Index.{planRoom}
 use Rattle.lists.specs.Lists.{listsNeed}
 use Rattle.samples.specs.Prepared as Plans
 use Rattle.batch.specs.declared.Taken.{Taken}
@@ -27,11 +30,14 @@ pub record Prepared (s plan lists : List ℕ) (hits : ℕ) : Type 0 where
   pub planned : Plans.Prepared (tableOf s) plan lists
   pub room : counterTotal (tableOf s) + 256 ≤ hits
 
--- arrays of so many elements hold the plan and the lists of the table, and the places that a sample hits
-pub record Sized (t : Table) (n m k : ℕ) : Type 0 where
+-- arrays of so many elements hold the plan and the lists of the table
+pub record Sized (t : Table) (n m : ℕ) : Type 0 where
   pub plan : length (sequenceRows t) + planNeed t ≤ n
   pub lists : listsNeed t ≤ m
-  pub hits : counterTotal t + 256 ≤ k
+
+-- how many words the rows of the sequences and the plan of the values take at most, by the counts of the sections and the points' counters
+abbrev pub roomFor : Layout → Index → ℕ
+roomFor l x = 2 * l .«transition_count» + 3 * l .«sequence_count» + 2 * l .«step_count» + 4 * l .«step_range_count» + planRoom l x
 
 -- a sample's effect: its number, the words and the report
 pub record Done (e : Effect) (n : ℕ) (w r : List ℕ) : Type 0 where

@@ -1,11 +1,11 @@
 -- The plan and the lists together.
 -- Assumes nothing.
 use mathlib.Core.Path.{_≡_, sym, ap, _∙_, subst}
-use mathlib.Core.List.{List, _++_}
+use mathlib.Core.List.{List}
 use Prim.Native.Nat.{ℕ, _+_, _-_, _*_, _≤_, _<_}
 use native.Mathlib.Omega.{arith}
 use borrow.Rule.Slice.PartMut.{putMid}
-use lib.ListN.{length, getD, take, drop, set, length-append, length-set, List·getD-append}
+use lib.ListN.{length, getD, take, drop, set, length-set}
 use lib.Seq.{getD-drop, length-take-le, drop-set-lt, getD-set-other}
 use Rattle.model.specs.Table.{Table}
 use Rattle.model.specs.Counters.{pointCounters}
@@ -63,19 +63,6 @@ module _ (t : Table) (few : (q : ℕ) → q < pointTotal t → length (pointCoun
           marks = subst (Marked t) (sym (back-rest (marksAt t) l₂ at m)) marks;
           room = omega (arith, kept);
         })
-
--- bounds and origins, each in its own part
-module _ (t : Table) (w b d z : List ℕ) (h : pointTotal t ≤ 16) (e : length b ≡ 64) where
-  at : 64 ≤ length (b ++ d)
-  at = omega (arith, length-append b d)
-
-  pub first-values : ValuesPlan t w b → ValuesPlan t w (putMid 64 (length (b ++ d) - 64) (b ++ d) z)
-  first-values v =
-      values-kept t w b (putMid 64 (length (b ++ d) - 64) (b ++ d) z) h
-      (λ i k. front-get 64 (b ++ d) (putMid 64 (length (b ++ d) - 64) (b ++ d) z) (back-front 64 (b ++ d) at z) i (omega arith) ∙ List·getD-append b d 0 i (omega arith)) v
-
-  pub first-origins : Origins t z → Origins t (drop 64 (putMid 64 (length (b ++ d) - 64) (b ++ d) z))
-  first-origins o = subst (Origins t) (sym (back-rest 64 (b ++ d) at z)) o
 
 -- ---- an element that no list has
 

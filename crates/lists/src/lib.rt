@@ -3,24 +3,29 @@ mod rows;
 
 use crate::rows::put_place_rows;
 use crosses::marked::mark_all;
-use origins::put_origins;
-use pieces::build::put_plan;
 use places::put_of_kind;
 use sampling::Index;
+use sampling::planned::put_first;
 ghost use mathlib.Core.Path.{_≡_};
 ghost use mathlib.Core.Bool.{true};
 ghost use mathlib.Core.List.{_∷_};
 ghost use Prim.Native.Nat.{_≤_, _+_, _*_};
-ghost use lib.ListN.{length, take, drop};
+ghost use lib.ListN.{length, take};
 ghost use Rattle.model.specs.Format.{accepted, tableOf};
 ghost use Rattle.model.specs.Register.{pointTotal};
 ghost use Rattle.arrays.specs.Put.{put};
-ghost use Rattle.arrays.specs.Flat.{Origins};
-ghost use Rattle.pieces.specs.Plan.{planNeed, ValuesPlan};
+ghost use Rattle.pieces.specs.Plan.{planNeed};
 ghost use Rattle.places.specs.Places.{ofKind, placesFrom};
 ghost use Rattle.sampling.specs.Index.{Indexed, Labelled};
 ghost use Rattle.lists.specs.Lists.{placesAt, countsAt, listsNeed, Planned, Ready};
 ghost use Rattle.lists.specs.Stages.{Listed};
+
+// Past the plan's bounds, at most 49 elements, and before the origins of the cover bins stand three numbers of the table: of its transition bins, of the words of their rows, of its counters.
+pub const BINS_AT: usize = 61;
+
+pub const ROWS_AT: usize = 62;
+
+pub const COUNTERS_AT: usize = 63;
 
 // The first n elements of another array.
 fn copy(out: &mut [u16], from: &[u16], n: usize)
@@ -62,15 +67,6 @@ pub fn put_lists(lists: &mut [u16], t: &[u8], kinds: &[u8], x: Index) -> usize
     to
 }
 
-// The plan of the values, with its bounds, and from 64 on the origins of the cover bins.
-fn put_first(plan: &mut [u64], first: &mut [u16], t: &[u8])
-    requires { ⌜ (accepted (now t) ≡ true) × (planNeed (tableOf (now t)) ≤ length (now plan)) × (placesAt (pointTotal (tableOf (now t))) ≤ length (now first)) ⌝ }
-    ensures { λ _. ⌜ ValuesPlan (tableOf (now (t .entry))) (now (plan .exit)) (now (first .exit)) × Origins (tableOf (now (t .entry))) (drop 64 (now (first .exit))) ⌝ }
-{
-    put_plan(plan, &mut first[..64], t);
-    put_origins(&mut first[64..], t);
-}
-
 // The plan and all lists. kinds and x are the table's, first is scratch.
 fn put_all(plan: &mut [u64], lists: &mut [u16], first: &mut [u16], t: &[u8], kinds: &[u8], x: Index)
     requires { ⌜ (accepted (now t) ≡ true) × Indexed (tableOf (now t)) x × Labelled (tableOf (now t)) (now kinds) × (planNeed (tableOf (now t)) ≤ length (now plan)) × (listsNeed (tableOf (now t)) ≤ length (now lists)) × (placesAt (pointTotal (tableOf (now t))) ≤ length (now first)) ⌝ }
@@ -83,12 +79,21 @@ fn put_all(plan: &mut [u64], lists: &mut [u16], first: &mut [u16], t: &[u8], kin
     mark_all(&mut lists[c + 16..], t, &counts, plan, first);
 }
 
-// Size classes: a table of few points does not pay for the clearing of a large array.
+// ---- size classes: a table of few points does not pay for the clearing of a large array
+
 fn put_small(plan: &mut [u64], lists: &mut [u16], t: &[u8], kinds: &[u8], x: Index)
     requires { ⌜ (accepted (now t) ≡ true) × Indexed (tableOf (now t)) x × Labelled (tableOf (now t)) (now kinds) × (planNeed (tableOf (now t)) ≤ length (now plan)) × (listsNeed (tableOf (now t)) ≤ length (now lists)) × (pointTotal (tableOf (now t)) ≤ 4) ⌝ }
     ensures { λ _. ⌜ Planned (tableOf (now (t .entry))) (now (plan .exit)) (now (lists .exit)) × (length (now (plan .exit)) ≡ length (now (plan .entry))) × (length (now (lists .exit)) ≡ length (now (lists .entry))) ⌝ }
 {
     let mut first = [0u16; 1088];
+    put_all(plan, lists, &mut first, t, kinds, x);
+}
+
+fn put_medium(plan: &mut [u64], lists: &mut [u16], t: &[u8], kinds: &[u8], x: Index)
+    requires { ⌜ (accepted (now t) ≡ true) × Indexed (tableOf (now t)) x × Labelled (tableOf (now t)) (now kinds) × (planNeed (tableOf (now t)) ≤ length (now plan)) × (listsNeed (tableOf (now t)) ≤ length (now lists)) × (pointTotal (tableOf (now t)) ≤ 8) ⌝ }
+    ensures { λ _. ⌜ Planned (tableOf (now (t .entry))) (now (plan .exit)) (now (lists .exit)) × (length (now (plan .exit)) ≡ length (now (plan .entry))) × (length (now (lists .exit)) ≡ length (now (lists .entry))) ⌝ }
+{
+    let mut first = [0u16; 2112];
     put_all(plan, lists, &mut first, t, kinds, x);
 }
 
@@ -100,12 +105,25 @@ fn put_largest(plan: &mut [u64], lists: &mut [u16], t: &[u8], kinds: &[u8], x: I
     put_all(plan, lists, &mut first, t, kinds, x);
 }
 
-fn put_planned(plan: &mut [u64], lists: &mut [u16], t: &[u8], kinds: &[u8], x: Index)
+// The first class, from class on, that has room. It calls itself, since a compiler then keeps the classes' arrays out of its frame and each other's.
+fn put_planned(plan: &mut [u64], lists: &mut [u16], t: &[u8], kinds: &[u8], x: Index, class: usize)
     requires { ⌜ (accepted (now t) ≡ true) × Indexed (tableOf (now t)) x × Labelled (tableOf (now t)) (now kinds) × (planNeed (tableOf (now t)) ≤ length (now plan)) × (listsNeed (tableOf (now t)) ≤ length (now lists)) ⌝ }
     ensures { λ _. ⌜ Planned (tableOf (now (t .entry))) (now (plan .exit)) (now (lists .exit)) × (length (now (plan .exit)) ≡ length (now (plan .entry))) × (length (now (lists .exit)) ≡ length (now (lists .entry))) ⌝ }
 {
-    if x.points <= 4 {
-        put_small(plan, lists, t, kinds, x);
+    if class == 0 {
+        if x.points <= 4 {
+            put_small(plan, lists, t, kinds, x);
+            return;
+        }
+        put_planned(plan, lists, t, kinds, x, 1);
+        return;
+    }
+    if class == 1 {
+        if x.points <= 8 {
+            put_medium(plan, lists, t, kinds, x);
+            return;
+        }
+        put_planned(plan, lists, t, kinds, x, 2);
         return;
     }
     put_largest(plan, lists, t, kinds, x);
@@ -116,6 +134,6 @@ pub fn put_ready(plan: &mut [u64], lists: &mut [u16], t: &[u8], kinds: &[u8], x:
     requires { ⌜ (accepted (now t) ≡ true) × Indexed (tableOf (now t)) x × Labelled (tableOf (now t)) (now kinds) × (planNeed (tableOf (now t)) ≤ length (now plan)) × (listsNeed (tableOf (now t)) ≤ length (now lists)) ⌝ }
     ensures { λ _. ⌜ Ready (tableOf (now (t .entry))) (now (plan .exit)) (now (lists .exit)) × (length (now (plan .exit)) ≡ length (now (plan .entry))) × (length (now (lists .exit)) ≡ length (now (lists .entry))) ⌝ }
 {
-    put_planned(plan, lists, t, kinds, x);
-    lists[63] = x.counters as u16;
+    put_planned(plan, lists, t, kinds, x, 0);
+    lists[COUNTERS_AT] = x.counters as u16;
 }

@@ -1,5 +1,7 @@
 // What is needed of a table for its samples, worked out once.
 use layout::layout_of;
+use lists::BINS_AT;
+use lists::ROWS_AT;
 use lists::put_ready;
 use runs::rows::put_sequences;
 use sampling::Index;
@@ -22,6 +24,6 @@ pub fn prepare(plan: &mut [u64], lists: &mut [u16], t: &[u8], kinds: &[u8], x: I
     let l = layout_of(t);
     let m = put_sequences(plan, 0, t);
     put_ready(&mut plan[m..], lists, t, kinds, x);
-    lists[61] = l.transition_count as u16;
-    lists[62] = m as u16;
+    lists[BINS_AT] = l.transition_count as u16;
+    lists[ROWS_AT] = m as u16;
 }

@@ -4,6 +4,9 @@ use crate::listed::report_listed;
 use arrays::element;
 use engine::find_hits;
 use layout::point_count;
+use lists::BINS_AT;
+use lists::COUNTERS_AT;
+use lists::ROWS_AT;
 use points::readings::read_all;
 use runs::take::RunPlace;
 use runs::take::take_runs;
@@ -35,10 +38,10 @@ fn find(
     ensures { λ _. ⌜ now (readings .exit) ≡ put 0 (readingCodes (tableOf (now (t .entry))) (now (sample .entry))) (now (readings .entry)) ⌝ }
 {
     let n = point_count(t);
-    let k = element(lists, 63) as usize;
+    let k = element(lists, COUNTERS_AT) as usize;
     let at = 2 + k + n;
     read_all(readings, t, sample);
-    let b = element(lists, 61) as usize;
+    let b = element(lists, BINS_AT) as usize;
     let q = RunPlace {
         words: at,
         rows: 0,
@@ -46,7 +49,7 @@ fn find(
     };
     let mut lens = [0u32; 64];
     take_runs(register, &mut lens, t, plan, readings, q);
-    let m = element(lists, 62) as usize;
+    let m = element(lists, ROWS_AT) as usize;
     find_hits(hits, t, sample, readings, &lens, &plan[m..], lists)
 }
 
@@ -66,7 +69,7 @@ pub fn write_planned(
 {
     let mut readings = [0u64; 16];
     let n = point_count(t);
-    let k = element(lists, 63) as usize;
+    let k = element(lists, COUNTERS_AT) as usize;
     let m = find(register, hits, &mut readings, t, sample, plan, lists);
     raise_counts(register, &hits[..m], &readings, k, n);
     let at = 81 + 514 * n;

@@ -1,14 +1,17 @@
 -- The counters of the points and those of the crosses, one after the other, are all of them; and they are few.
 -- Assumes nothing.
 use mathlib.Core.Path.{_≡_, refl, sym, ap, _∙_}
-use mathlib.Core.Bool.{true}
+use mathlib.Core.Bool.{true, _&&_}
 use mathlib.Core.List.{List, _++_, map, map-append}
 use Prim.Native.Nat.{ℕ, zero, suc, _+_, _*_, _≤_}
 use native.Mathlib.Nat.{zero-add}
 use native.Mathlib.Numerals.{add-one}
 use native.Mathlib.Omega.{arith}
+use lib.Dec.{leb}
 use lib.ListN.{length, getD, take, length-append, length-map}
 use lib.Seq.{take-take, take-at}
+use borrow.Author.Tests.{leb-true}
+use Rattle.model.proofs.Booleans.{and-left, and-right}
 use Rattle.model.specs.Lists.{upFrom, sumOf, concatOf, asBit}
 use Rattle.model.specs.Table.{Table}
 use Rattle.model.specs.Counters.{Counter, pointCounters, crossCounters, counters}
@@ -30,7 +33,8 @@ use Rattle.model.proofs.Lists.{length-upFrom}
 use Rattle.arrays.specs.Put.{put}
 use Rattle.arrays.specs.Flat.{hitFlags, totalFlags, kindsOf, kindOf, itemsOf, allPointCounters, allCrossCounters, pointStart, pointStarts, covers, Tells, coverCounts}
 use Rattle.points.specs.Gates.{Kinded, Flagged, Gathered}
-use Rattle.sampling.specs.Index.{Roomy, Labelled}
+use Rattle.sampling.specs.declared.Index.{Index}
+use Rattle.sampling.specs.Index.{Roomy, Indexed, Labelled, planRoom}
 use Rattle.arrays.proofs.PutLaws.{put-next, put-nil, front-put, front-kept}
 use Rattle.crosses.proofs.Places.{count-crosses}
 use Rattle.arrays.proofs.FlatLaws.{counts-length, kinds-length}
@@ -144,17 +148,20 @@ covers-within t (suc n) i =
     omega (arith, length-append (pointCounters t i) (concatOf (pointCounters t) (upFrom (suc i) n)), covers-fewer (pointCounters t i), covers-within t n (suc i))
 
 -- enough for the ranges of the table and the counters of its points
-pub plan-within : (s : List ℕ) → accepted s ≡ true → (l : Layout) → l ≡ layoutOf s → (starts : List ℕ) → take (pointTotal (tableOf s) + 1) starts ≡ pointStarts (tableOf s)
-    → (n : ℕ) → n ≡ pointTotal (tableOf s) → planNeed (tableOf s) ≤ 11 * l .«range_count» + 3 * (getD starts n 0 + n) + 7 * n
+pub plan-within : (s : List ℕ) → accepted s ≡ true → (x : Index) → Indexed (tableOf s) x → planNeed (tableOf s) ≤ planRoom (layoutOf s) x
 unfolding layoutOf pointStart
-plan-within s ok l el starts e n en =
+plan-within s ok x own =
     let t = tableOf s in
-    let read : getD starts n 0 ≡ length (concatOf (pointCounters t) (upFrom 0 (pointTotal t))) = ap (λ (i : ℕ). getD starts i 0) en ∙ start-read t starts e (pointTotal t) (omega arith) in
-    omega (arith, plan-fits s ok, covers-within t (pointTotal t) 0, read, en, ap (λ (x : Layout). x .«range_count») el)
+    let read : getD (x .starts) (x .points) 0 ≡ length (concatOf (pointCounters t) (upFrom 0 (pointTotal t))) = ap (λ (i : ℕ). getD (x .starts) i 0) (own .points) ∙ start-read t (x .starts) (own .starts) (pointTotal t) (omega arith) in
+    omega (arith, plan-fits s ok, covers-within t (pointTotal t) 0, read, own .points)
 
 pub start-few : (s : List ℕ) → accepted s ≡ true → (starts : List ℕ) → take (pointTotal (tableOf s) + 1) starts ≡ pointStarts (tableOf s) → (n : ℕ) → n ≡ pointTotal (tableOf s) → getD starts n 0 ≤ 4096
 start-few s ok starts e n en =
     omega (arith, ap (λ (i : ℕ). getD starts i 0) en ∙ start-read (tableOf s) starts e (pointTotal (tableOf s)) (omega arith), start-low s ok (pointTotal (tableOf s)) (omega arith), sixteen s ok)
+
+-- two tests of a size class
+pub both-within : (a n b m : ℕ) → (leb a n && leb b m) ≡ true → (a ≤ n) × (b ≤ m)
+both-within a n b m h = (leb-true a n (and-left (leb a n) (leb b m) h), leb-true b m (and-right (leb a n) (leb b m) h))
 
 -- ---- a table without crosses
 

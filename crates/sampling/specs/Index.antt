@@ -3,10 +3,11 @@
 use Prim.Native.Nat.{ℕ, _+_, _*_, _≤_}
 use mathlib.Core.Path.{_≡_}
 use mathlib.Core.List.{List}
-use lib.ListN.{length, take}
+use lib.ListN.{length, getD, take}
 use Rattle.model.specs.Table.{Table}
 use Rattle.model.specs.Counters.{counters}
 use Rattle.model.specs.Register.{pointTotal, counterTotal}
+use Rattle.layout.specs.declared.Layout.{Layout}
 use Rattle.arrays.specs.Flat.{pointStarts, coverCounts, kindsOf}
 use Rattle.sampling.specs.declared.Index.{Index}
 
@@ -26,3 +27,7 @@ pub record Indexed (t : Table) (x : Index) : Type 0 where
 -- the kinds are those of the table's counters
 unfoldable pub Labelled : Table → List ℕ → Type 0
 Labelled t kinds = take (counterTotal t) kinds ≡ kindsOf (counters t)
+
+-- how many words the plan of the table's values takes at most, by its ranges, its points and their counters, which are at least as many as the cover bins
+abbrev pub planRoom : Layout → Index → ℕ
+planRoom l x = 11 * l .«range_count» + 3 * (getD (x .starts) (x .points) 0 + x .points) + 7 * x .points

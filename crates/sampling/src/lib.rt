@@ -1,5 +1,5 @@
 // Flat arrays over all counters of an accepted table, in the register's order: what each counter is, what is in the total, whose item it is.
-mod planned;
+pub mod planned;
 
 use crate::planned::put_planned;
 use crosses::all::put_crosses;
@@ -58,7 +58,7 @@ fn totals_in(flags: &mut [u8], t: &[u8], kinds: &[u8], has: &mut [u8], marks: &m
 {
     let starts = x.starts;
     let counts = x.counts;
-    put_planned(has, marks, t, x);
+    put_planned(has, marks, t, x, 0);
     let n = scatter(flags, t, kinds, has, &starts);
     let ask = Ask { at: n, total: true };
     let none = [0u32; 1];
@@ -92,22 +92,36 @@ fn largest_totals(flags: &mut [u8], t: &[u8], kinds: &[u8], x: Index)
     totals_in(flags, t, kinds, &mut has, &mut marks, x);
 }
 
+// The first class, from class on, that has room. It calls itself, since a compiler then keeps the classes' arrays out of its frame and each other's.
+fn totals_by(flags: &mut [u8], t: &[u8], kinds: &[u8], x: Index, class: usize)
+    requires { ⌜ (accepted (now t) ≡ true) × Roomy (tableOf (now t)) (length (now flags)) × Indexed (tableOf (now t)) x × Labelled (tableOf (now t)) (now kinds) ⌝ }
+    ensures { λ _. ⌜ now (flags .exit) ≡ put 0 (totalFlags (tableOf (now (t .entry))) (counters (tableOf (now (t .entry))))) (now (flags .entry)) ⌝ }
+{
+    if class == 0 {
+        if (x.counters <= 1024) & (x.points <= 4) {
+            small_totals(flags, t, kinds, x);
+            return;
+        }
+        totals_by(flags, t, kinds, x, 1);
+        return;
+    }
+    if class == 1 {
+        if x.counters <= 4096 {
+            medium_totals(flags, t, kinds, x);
+            return;
+        }
+        totals_by(flags, t, kinds, x, 2);
+        return;
+    }
+    largest_totals(flags, t, kinds, x);
+}
+
 // kinds and x are the table's.
 pub fn put_totals(flags: &mut [u8], t: &[u8], kinds: &[u8], x: Index)
     requires { ⌜ (accepted (now t) ≡ true) × Roomy (tableOf (now t)) (length (now flags)) × Indexed (tableOf (now t)) x × Labelled (tableOf (now t)) (now kinds) ⌝ }
     ensures { λ _. ⌜ now (flags .exit) ≡ put 0 (totalFlags (tableOf (now (t .entry))) (counters (tableOf (now (t .entry))))) (now (flags .entry)) ⌝ }
 {
-    if x.counters <= 1024 {
-        if x.points <= 4 {
-            small_totals(flags, t, kinds, x);
-            return;
-        }
-    }
-    if x.counters <= 4096 {
-        medium_totals(flags, t, kinds, x);
-        return;
-    }
-    largest_totals(flags, t, kinds, x);
+    totals_by(flags, t, kinds, x, 0);
 }
 
 // The item that each counter belongs to. x is the table's.

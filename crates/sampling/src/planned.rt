@@ -7,47 +7,55 @@ use pieces::build::put_plan;
 use pieces::plan::put_has;
 ghost use mathlib.Core.Path.{_≡_};
 ghost use mathlib.Core.Bool.{true};
-ghost use Prim.Native.Nat.{_*_, _≤_};
+ghost use Prim.Native.Nat.{_+_, _*_, _≤_};
 ghost use lib.ListN.{length, drop};
 ghost use Rattle.model.specs.Format.{accepted, tableOf};
 ghost use Rattle.model.specs.Counters.{hasValue};
 ghost use Rattle.model.specs.Register.{pointTotal};
 ghost use Rattle.arrays.specs.Flat.{Tells, Origins};
+ghost use Rattle.layout.specs.Places.{layoutOf};
 ghost use Rattle.pieces.specs.Plan.{planNeed, ValuesPlan};
 ghost use Rattle.crosses.specs.Marked.{markTotal, Marked};
-ghost use Rattle.sampling.specs.Index.{Indexed};
+ghost use Rattle.sampling.specs.Index.{Indexed, planRoom};
 
 // The plan of the table's values, and in `lists` its bounds and, from element 64 on, the origins of the cover bins.
-fn put_lists(plan: &mut [u64], lists: &mut [u16], t: &[u8])
-    requires { ⌜ (accepted (now t) ≡ true) × (planNeed (tableOf (now t)) ≤ length (now plan)) × (4160 ≤ length (now lists)) ⌝ }
+pub fn put_first(plan: &mut [u64], lists: &mut [u16], t: &[u8])
+    requires { ⌜ (accepted (now t) ≡ true) × (planNeed (tableOf (now t)) ≤ length (now plan)) × (64 + 256 * pointTotal (tableOf (now t)) ≤ length (now lists)) ⌝ }
     ensures { λ _. ⌜ ValuesPlan (tableOf (now (t .entry))) (now (plan .exit)) (now (lists .exit)) × Origins (tableOf (now (t .entry))) (drop 64 (now (lists .exit))) ⌝ }
 {
     put_plan(plan, &mut lists[..64], t);
     put_origins(&mut lists[64..], t);
 }
 
-// In an array that has room for the plan.
-fn plan_in(has: &mut [u8], marks: &mut [u16], plan: &mut [u64], t: &[u8], x: Index)
-    requires { ⌜ (accepted (now t) ≡ true) × Indexed (tableOf (now t)) x × (planNeed (tableOf (now t)) ≤ length (now plan)) ⌝ }
+// In arrays that have room for the plan, and for its bounds and the origins.
+fn plan_in(
+    has: &mut [u8],
+    marks: &mut [u16],
+    plan: &mut [u64],
+    lists: &mut [u16],
+    t: &[u8],
+    x: Index,
+)
+    requires { ⌜ (accepted (now t) ≡ true) × Indexed (tableOf (now t)) x × (planNeed (tableOf (now t)) ≤ length (now plan)) × (64 + 256 * pointTotal (tableOf (now t)) ≤ length (now lists)) ⌝ }
     requires { ⌜ (256 * pointTotal (tableOf (now t)) ≤ length (now has)) × (markTotal (tableOf (now t)) ≤ length (now marks)) ⌝ }
     ensures { λ _. ⌜ Tells (hasValue (tableOf (now (t .entry)))) (tableOf (now (t .entry))) (now (has .exit)) × Marked (tableOf (now (t .entry))) (now (marks .exit)) ⌝ }
 {
     let counts = x.counts;
-    let mut lists = [0u16; 4160];
-    put_lists(plan, &mut lists, t);
-    put_has(has, t, plan, &lists, &counts);
-    mark_all(marks, t, &counts, plan, &lists);
+    put_first(plan, lists, t);
+    put_has(has, t, plan, lists, &counts);
+    mark_all(marks, t, &counts, plan, lists);
 }
 
 // ---- size classes
 
 fn small_plan(has: &mut [u8], marks: &mut [u16], t: &[u8], x: Index)
-    requires { ⌜ (accepted (now t) ≡ true) × Indexed (tableOf (now t)) x × (planNeed (tableOf (now t)) ≤ 1024) ⌝ }
+    requires { ⌜ (accepted (now t) ≡ true) × Indexed (tableOf (now t)) x × (planNeed (tableOf (now t)) ≤ 1024) × (pointTotal (tableOf (now t)) ≤ 4) ⌝ }
     requires { ⌜ (256 * pointTotal (tableOf (now t)) ≤ length (now has)) × (markTotal (tableOf (now t)) ≤ length (now marks)) ⌝ }
     ensures { λ _. ⌜ Tells (hasValue (tableOf (now (t .entry)))) (tableOf (now (t .entry))) (now (has .exit)) × Marked (tableOf (now (t .entry))) (now (marks .exit)) ⌝ }
 {
     let mut plan = [0u64; 1024];
-    plan_in(has, marks, &mut plan, t, x);
+    let mut lists = [0u16; 1088];
+    plan_in(has, marks, &mut plan, &mut lists, t, x);
 }
 
 fn medium_plan(has: &mut [u8], marks: &mut [u16], t: &[u8], x: Index)
@@ -56,7 +64,8 @@ fn medium_plan(has: &mut [u8], marks: &mut [u16], t: &[u8], x: Index)
     ensures { λ _. ⌜ Tells (hasValue (tableOf (now (t .entry)))) (tableOf (now (t .entry))) (now (has .exit)) × Marked (tableOf (now (t .entry))) (now (marks .exit)) ⌝ }
 {
     let mut plan = [0u64; 4096];
-    plan_in(has, marks, &mut plan, t, x);
+    let mut lists = [0u16; 4160];
+    plan_in(has, marks, &mut plan, &mut lists, t, x);
 }
 
 fn largest_plan(has: &mut [u8], marks: &mut [u16], t: &[u8], x: Index)
@@ -65,13 +74,14 @@ fn largest_plan(has: &mut [u8], marks: &mut [u16], t: &[u8], x: Index)
     ensures { λ _. ⌜ Tells (hasValue (tableOf (now (t .entry)))) (tableOf (now (t .entry))) (now (has .exit)) × Marked (tableOf (now (t .entry))) (now (marks .exit)) ⌝ }
 {
     let mut plan = [0u64; 23712];
-    plan_in(has, marks, &mut plan, t, x);
+    let mut lists = [0u16; 4160];
+    plan_in(has, marks, &mut plan, &mut lists, t, x);
 }
 
-// At least as many words as the plan of the table's values needs: a point's counters are at least as many as its cover bins.
-fn plan_words(t: &[u8], x: Index) -> usize
+// At least as many words as the plan of the table's values needs.
+pub fn plan_words(t: &[u8], x: Index) -> usize
     requires { ⌜ (accepted (now t) ≡ true) × Indexed (tableOf (now t)) x ⌝ }
-    ensures { λ r. ⌜ planNeed (tableOf (now (t .entry))) ≤ r ⌝ }
+    ensures { λ r. ⌜ r ≡ planRoom (layoutOf (now (t .entry))) x ⌝ }
 {
     let l = layout_of(t);
     let starts = x.starts;
@@ -80,19 +90,27 @@ fn plan_words(t: &[u8], x: Index) -> usize
     11 * l.range_count + 3 * (counters + n) + 7 * n
 }
 
-// Which cover bins still hold a value, 256 bytes for each point, and the marks of the products of all crosses.
-pub fn put_planned(has: &mut [u8], marks: &mut [u16], t: &[u8], x: Index)
+// Which cover bins still hold a value, 256 bytes for each point, and the marks of the products of all crosses: by the first class, from class on, that has room.
+pub fn put_planned(has: &mut [u8], marks: &mut [u16], t: &[u8], x: Index, class: usize)
     requires { ⌜ (accepted (now t) ≡ true) × Indexed (tableOf (now t)) x ⌝ }
     requires { ⌜ (256 * pointTotal (tableOf (now t)) ≤ length (now has)) × (markTotal (tableOf (now t)) ≤ length (now marks)) ⌝ }
     ensures { λ _. ⌜ Tells (hasValue (tableOf (now (t .entry)))) (tableOf (now (t .entry))) (now (has .exit)) × Marked (tableOf (now (t .entry))) (now (marks .exit)) ⌝ }
 {
     let need = plan_words(t, x);
-    if need <= 1024 {
-        small_plan(has, marks, t, x);
+    if class == 0 {
+        if (x.points <= 4) & (need <= 1024) {
+            small_plan(has, marks, t, x);
+            return;
+        }
+        put_planned(has, marks, t, x, 1);
         return;
     }
-    if need <= 4096 {
-        medium_plan(has, marks, t, x);
+    if class == 1 {
+        if need <= 4096 {
+            medium_plan(has, marks, t, x);
+            return;
+        }
+        put_planned(has, marks, t, x, 2);
         return;
     }
     largest_plan(has, marks, t, x);

@@ -18,20 +18,14 @@ prepare-requires c κs =
     let fits = largest-fits _ ok in
     (ok, p .1, p .2, omega (arith, fits .plan), omega (arith, fits .lists))
 
-slice-aggregate-each : tie.Need-slice-aggregate-each
-slice-aggregate-each c = search needs
+slice-aggregate-take : tie.Need-slice-aggregate-take
+slice-aggregate-take c = search needs
 
-slice-aggregate-each-2 : tie.Need-slice-aggregate-each-2
-slice-aggregate-each-2 c = search needs
+slice-aggregate-take-2 : tie.Need-slice-aggregate-take-2
+slice-aggregate-take-2 c = search needs
 
-slice-aggregate-each-3 : tie.Need-slice-aggregate-each-3
-slice-aggregate-each-3 c = search needs
-
-each-requires : tie.Need-each-requires
-each-requires c κs =
-    let p = c .before .before .before .before .before .before .before .before .before .before .before .before .before .before .before .pre in
-    let fits = largest-fits _ (known-accepted _ (p .0 .known)) in
-    (p .0, record { planned = c .before .before .before .before .before .before .before .prepare .ensures .0; room = omega (arith, fits .hits) })
+take-requires : tie.Need-take-requires
+take-requires c κs = search needs
 
 same-length : tie.Need-same-length
 same-length c = search needs
@@ -49,10 +43,9 @@ largest-spec =
     slice-aggregate-prepare
     slice-aggregate-prepare-2
     prepare-requires
-    slice-aggregate-each
-    slice-aggregate-each-2
-    slice-aggregate-each-3
-    each-requires
+    slice-aggregate-take
+    slice-aggregate-take-2
+    take-requires
     same-length
     same-length-2
     returns)

@@ -1,6 +1,8 @@
+use mathlib.Core.Path.{ap}
 use native.Mathlib.Omega.{arith}
-use Rattle.batch.proofs.PreparedLaws.{index-small, enough}
 use borrow.Author.Needs.{needs}
+use Rattle.layout.specs.declared.Layout.{Layout}
+use Rattle.batch.proofs.PreparedLaws.{index-small}
 use Rattle.batch.proofs.turns.room_for.Statement.{statement}
 use Rattle.batch.proofs.turns.room_for.Tie as tie
 
@@ -28,58 +30,27 @@ mul-rows-2 c = search needs
 add-rows-2 : tie.Need-add-rows-2
 add-rows-2 c = search needs
 
-mul-result : tie.Need-mul-result
-mul-result c = search needs
+plan-words-requires : tie.Need-plan-words-requires
+plan-words-requires c κs = search needs
 
 add-result : tie.Need-add-result
-add-result c = search needs
-
-mul-result-2 : tie.Need-mul-result-2
-mul-result-2 c =
-    let p = c .before .before .before .before .before .before .before .before .pre in
+add-result c =
+    let p = c .before .before .before .before .before .before .before .pre in
     let few = index-small _ (p .0) _ (p .1) in
-    omega (arith, few .0, few .1)
-
-array-read-result : tie.Need-array-read-result
-array-read-result c =
-    let p = c .before .before .before .before .before .before .before .before .pre in
-    omega (arith, p .1 .starts-sized, index-small _ (p .0) _ (p .1) .0)
-
-cast-result : tie.Need-cast-result
-cast-result c =
-    let p = c .before .before .before .before .before .before .before .before .pre in
-    let few = index-small _ (p .0) _ (p .1) in
-    omega (arith, few .0, few .1)
-
-mul-result-3 : tie.Need-mul-result-3
-mul-result-3 c =
-    let p = c .before .before .before .before .before .before .before .before .pre in
-    let few = index-small _ (p .0) _ (p .1) in
-    omega (arith, few .0, few .1)
-
-add-result-2 : tie.Need-add-result-2
-add-result-2 c =
-    let p = c .before .before .before .before .before .before .before .before .pre in
-    let few = index-small _ (p .0) _ (p .1) in
-    omega (arith, few .0, few .1)
-
-mul-result-4 : tie.Need-mul-result-4
-mul-result-4 c =
-    let p = c .before .before .before .before .before .before .before .before .pre in
-    let few = index-small _ (p .0) _ (p .1) in
-    omega (arith, few .0, few .1)
-
-add-result-3 : tie.Need-add-result-3
-add-result-3 c =
-    let p = c .before .before .before .before .before .before .before .before .pre in
-    let few = index-small _ (p .0) _ (p .1) in
-    omega (arith, few .0, few .1)
+    let l = c .before .before .before .before .before .layout-of in
+    omega (arith, c .plan-words .ensures, few .0, few .1, l .ensures .1 .range-count, ap (λ (y : Layout). y .«range_count») (l .ensures .0))
 
 returns : tie.Need-returns
 returns c =
-    let p = c .before .before .before .before .before .before .before .before .pre in
-    let l = c .before .before .before .before .before .layout-of in
-    omega (arith, enough _ (p .0) (l .result) (l .ensures .0) _ (p .1))
+    let e = c .before .before .before .before .before .layout-of .ensures .0 in
+    omega (
+      arith,
+      c .plan-words .ensures,
+      ap (λ (l : Layout). l .«transition_count») e,
+      ap (λ (l : Layout). l .«sequence_count») e,
+      ap (λ (l : Layout). l .«step_count») e,
+      ap (λ (l : Layout). l .«step_range_count») e,
+    )
 
 pub room-for-spec : {M : Type 1} → statement M
 room-for-spec =
@@ -93,13 +64,6 @@ room-for-spec =
     add-rows
     mul-rows-2
     add-rows-2
-    mul-result
+    plan-words-requires
     add-result
-    mul-result-2
-    array-read-result
-    cast-result
-    mul-result-3
-    add-result-2
-    mul-result-4
-    add-result-3
     returns)

@@ -1,6 +1,9 @@
 use borrow.Author.Needs.{needs}
+use mathlib.Core.Path.{ap}
 use native.Mathlib.Omega.{arith}
-use Rattle.sampling.proofs.Joins.{gate-room, start-few, plan-within}
+use Rattle.layout.specs.declared.Layout.{Layout}
+use Rattle.sampling.specs.Index.{planRoom}
+use Rattle.sampling.proofs.Joins.{gate-room, start-few}
 use Rattle.sampling.proofs.planned.plan_words.Statement.{statement}
 use Rattle.sampling.proofs.planned.plan_words.Tie as tie
 
@@ -68,12 +71,7 @@ add-result-3 c =
     omega (arith, few, x .points, gate-room (a .t .now) (p .0), c .before .before .layout-of .ensures .1 .range-count)
 
 returns : tie.Need-returns
-returns c =
-    let a = c .before .before .before .before .args in
-    let p = c .before .before .before .before .pre in
-    let x = p .1 in
-    let l = c .before .before .layout-of in
-    plan-within (a .t .now) (p .0) (l .result) (l .ensures .0) (a .x .starts) (x .starts) (a .x .points) (x .points)
+returns c = ap (λ (l : Layout). planRoom l (c .before .before .before .before .args .x)) (c .before .before .layout-of .ensures .0)
 
 pub plan-words-spec : {M : Type 1} → statement M
 plan-words-spec =

@@ -1,12 +1,14 @@
 use borrow.Author.Needs.{needs}
 use mathlib.Core.Path.{sym, _∙_}
+use Prim.Native.Nat.{_*_}
 use native.Mathlib.Omega.{arith}
 use lib.ListN.{drop}
 use lib.Seq.{length-take-le}
-use Rattle.sampling.proofs.Joins.{gate-room}
+use Rattle.model.specs.Format.{tableOf}
+use Rattle.model.specs.Register.{pointTotal}
 use Rattle.sampling.proofs.PlanLists.{part-room, lists-values, lists-origins}
-use Rattle.sampling.proofs.planned.put_lists.Statement.{statement}
-use Rattle.sampling.proofs.planned.put_lists.Tie as tie
+use Rattle.sampling.proofs.planned.put_first.Statement.{statement}
+use Rattle.sampling.proofs.planned.put_first.Tie as tie
 
 slice-relend-prefix-put-plan : tie.Need-slice-relend-prefix-put-plan
 slice-relend-prefix-put-plan c = search needs
@@ -34,7 +36,7 @@ put-origins-requires c κs =
     let p = c .before .before .before .before .before .before .before .before .before .before .before .pre in
     let v = c .before .before .before .before .before .put-plan in
     let sized = v .ensures .2 ∙ length-take-le 64 (a .lists .now) (omega (arith, p .2)) in
-    (p .0, omega (arith, gate-room (a .t .now) (p .0), part-room (a .lists .now) (v .last .1 .0) 4096 (p .2) sized))
+    (p .0, part-room (a .lists .now) (v .last .1 .0) (256 * pointTotal (tableOf (a .t .now))) (p .2) sized)
 
 same-length : tie.Need-same-length
 same-length c = search needs
@@ -52,8 +54,8 @@ returns c =
     let sized = v .ensures .2 ∙ length-take-le 64 (a .lists .now) (omega (arith, p .2)) in
     (lists-values (v .last .1 .0) rest (o .last .0) sized (a .t .now) (p .0) (v .last .0) (v .ensures .0), lists-origins (v .last .1 .0) rest (o .last .0) sized (a .t .now) (o .ensures .0))
 
-pub put-lists-spec : {M : Type 1} → statement M
-put-lists-spec =
+pub put-first-spec : {M : Type 1} → statement M
+put-first-spec =
     tie.close
     (tie.spec
     slice-relend-prefix-put-plan
