@@ -166,7 +166,7 @@ reached a b hi x = go (leb x hi)
     go false = none (ltb a 0) (leb x b) (ap (_&& leb x b) (le-ltb a 0 (omega arith)))
 
 module _ (f : ℕ → ℕ) (lo hi : ℕ) (w : List ℕ) (at : ℕ) where
-  pub span-met : (from end a b k : ℕ) → from ≡ f lo → end ≡ reachEnd from hi → a ≡ getD w at 0 → b ≡ getD w (at + 1) 0 → k ≡ getD w (at + 2) 0 → k < 65536
+  span-met : (from end a b k : ℕ) → from ≡ f lo → end ≡ reachEnd from hi → a ≡ getD w at 0 → b ≡ getD w (at + 1) 0 → k ≡ getD w (at + 2) 0 → k < 65536
       → (ltb a end && leb from b) ≡ isMet f lo hi (pieceAt w at .range)
   span-met from end a b k ef ee ea eb ek h =
       ap (λ (e : ℕ). ltb a e && leb from b) ee
@@ -177,6 +177,12 @@ module _ (f : ℕ → ℕ) (lo hi : ℕ) (w : List ℕ) (at : ℕ) where
   pattern-piece a b k y ea eb ek h e =
       e ∙ ap₂ (λ (x z : ℕ). patternMet f x z lo hi) ea eb
       ∙ sym (ap (λ (c : Bool). isMet f lo hi (cond c (span (getD w at 0) (getD w (at + 1) 0)) (pattern (getD w at 0) (getD w (at + 1) 0)))) (le-ltb (getD w (at + 2) 0) 65536 (omega arith)))
+
+  pub span-one : (from end a b k : ℕ) (l l′ : List ℕ) → from ≡ f lo → end ≡ reachEnd from hi → a ≡ getD w at 0 → b ≡ getD w (at + 1) 0 → k ≡ getD w (at + 2) 0 → k < 65536
+      → l′ ≡ cond (ltb a end && leb from b) (set l k 1) l → l′ ≡ metOne f lo hi (pieceAt w at) l
+  unfolding metOne
+  span-one from end a b k l l′ ef ee ea eb ek h e =
+      e ∙ ap₂ (λ (c : Bool) (j : ℕ). cond c (set l j 1) l) (span-met from end a b k ef ee ea eb ek h) (let z : k ≡ getD w (at + 2) 0 % 65536 = omega arith in z)
 
   module _ (l : List ℕ) (y : Bool) (e : y ≡ isMet f lo hi (pieceAt w at .range)) where
     pub met-off : y ≡ false → l ≡ metOne f lo hi (pieceAt w at) l
@@ -213,6 +219,9 @@ module _ (f : ℕ → ℕ) (lo hi : ℕ) (w : List ℕ) (n : ℕ) where
   pub met-end : (i : ℕ) (l : List ℕ) → n ≤ i → raiseAll (metParts f lo hi (piecesAt w (3 * i) (n - i))) l ≡ l
   unfolding rows metParts raiseAll
   met-end i l h = ap (λ (m : ℕ). raiseAll (metParts f lo hi (piecesAt w (3 * i) m)) l) (none-left n i h)
+
+  pub met-none : (i : ℕ) (l : List ℕ) → n ≤ i → raiseAll (metParts f lo hi (piecesAt w (3 * n) (n - n))) l ≡ raiseAll (metParts f lo hi (piecesAt w (3 * i) (n - i))) l
+  met-none i l h = met-end n l (omega arith) ∙ sym (met-end i l h)
 
   pub met-all : (l l₁ l₂ : List ℕ) → l₁ ≡ put 0 (replicate (length l) 0) l → l₂ ≡ raiseAll (metParts f lo hi (piecesAt w 0 n)) l₁ → l₂ ≡ metFlags f lo hi (piecesAt w 0 n) (length l)
   unfolding metFlags

@@ -5,9 +5,9 @@ use ranges::next::less;
 use ranges::next::next_pattern;
 use spans::lookup::free_value;
 ghost use mathlib.Core.Path.{_≡_};
-ghost use mathlib.Core.Bool.{true};
-ghost use Prim.Native.Nat.{ℕ, _<_, _≤_, _+_, _*_, _/_, _%_};
-ghost use lib.ListN.{length, getD};
+ghost use mathlib.Core.Bool.{true, cond};
+ghost use Prim.Native.Nat.{ℕ, _<_, _≤_, _+_, _-_, _*_, _/_};
+ghost use lib.ListN.{length, getD, set};
 ghost use Rattle.model.specs.Table.{Table, pattern};
 ghost use Rattle.model.specs.Values.{inRange};
 ghost use Rattle.model.proofs.Readers.{All};
@@ -93,22 +93,57 @@ fn reach_of(spans: &[u64], ask: Ask) -> Reach
     }
 }
 
-// A 1 at the part of the piece at at, if it is met.
-fn meet_one(flags: &mut [u8], words: &[u64], at: usize, spans: &[u64], reach: Reach, ask: Ask)
-    requires { ⌜ (at + 3 ≤ length (now words)) × (reach .from ≡ freeValue (now spans) (ask .low) (ask .lo)) × (reach .end ≡ reachEnd (reach .from) (ask .hi)) × (apart (now spans) ≡ true) × (ask .low ≤ ask .lo) × (ask .lo < 8589934592) × (ask .hi < 8589934592) ⌝ }
-    requires { ⌜ PartBelow (length (now flags)) (pieceAt (now words) at) ⌝ }
-    ensures { λ _. ⌜ now (flags .exit) ≡ metOne (freeValue (now (spans .entry)) (ask .low)) (ask .lo) (ask .hi) (pieceAt (now (words .entry)) at) (now (flags .entry)) ⌝ }
+// A 1 at k, if it is on.
+fn mark(flags: &mut [u8], k: usize, on: bool)
+    requires { ⌜ k < length (now flags) ⌝ }
+    ensures { λ _. ⌜ now (flags .exit) ≡ cond on (set (now (flags .entry)) k 1) (now (flags .entry)) ⌝ }
 {
-    let k = words[at + 2];
-    if 65536 <= k {
-        meet_pattern(flags, words, at, spans, ask);
-        return;
+    if on {
+        flags[k] = 1;
     }
-    let a = words[at];
-    let b = words[at + 1];
-    if (a < reach.end) & (reach.from <= b) {
-        flags[k as usize] = 1;
+}
+
+// A 1 at the part of each span that is met, from piece i to the first pattern. Answers which piece that is, or n.
+fn meet_spans(flags: &mut [u8], words: &[u64], i: usize, n: usize, reach: Reach) -> usize
+    requires { ⌜ (i ≤ n) × (3 * n ≤ length (now words)) × All (PartBelow (length (now flags))) (piecesAt (now words) 0 n) ⌝ }
+    ensures { λ r. ⌜ (i ≤ r) × (r ≤ n) × (r < n → 65536 ≤ getD (now (words .entry)) (3 * r + 2) 0) ⌝ }
+    ensures { λ r. ⌜ ((f : ℕ → ℕ) (lo hi : ℕ) → reach .from ≡ f lo → reach .end ≡ reachEnd (reach .from) hi → raiseAll (metParts f lo hi (piecesAt (now (words .entry)) (3 * r) (n - r))) (now (flags .exit)) ≡ raiseAll (metParts f lo hi (piecesAt (now (words .entry)) (3 * i) (n - i))) (now (flags .entry))) ⌝ }
+{
+    let mut j = i;
+    while j < n {
+        let at = 3 * j;
+        let k = words[at + 2];
+        if 65536 <= k {
+            return j;
+        }
+        let a = words[at];
+        let b = words[at + 1];
+        mark(flags, k as usize, (a < reach.end) & (reach.from <= b));
+        j += 1;
     }
+    n
+}
+
+// A 1 at each part of which one of the pieces from i to the first pattern is met, or to n. Answers where the next one is.
+fn meet_run(
+    flags: &mut [u8],
+    words: &[u64],
+    i: usize,
+    n: usize,
+    spans: &[u64],
+    reach: Reach,
+    ask: Ask,
+) -> usize
+    requires { ⌜ (i < n) × (3 * n ≤ length (now words)) × (reach .from ≡ freeValue (now spans) (ask .low) (ask .lo)) × (reach .end ≡ reachEnd (reach .from) (ask .hi)) × (apart (now spans) ≡ true) × (ask .low ≤ ask .lo) × (ask .lo < 8589934592) × (ask .hi < 8589934592) ⌝ }
+    requires { ⌜ All (PartBelow (length (now flags))) (piecesAt (now words) 0 n) ⌝ }
+    ensures { λ r. ⌜ (i < r) × (r ≤ n) × (raiseAll (metParts (freeValue (now (spans .entry)) (ask .low)) (ask .lo) (ask .hi) (piecesAt (now (words .entry)) (3 * r) (n - r))) (now (flags .exit)) ≡ raiseAll (metParts (freeValue (now (spans .entry)) (ask .low)) (ask .lo) (ask .hi) (piecesAt (now (words .entry)) (3 * i) (n - i))) (now (flags .entry))) ⌝ }
+{
+    let j = meet_spans(flags, words, i, n, reach);
+    if n <= j {
+        return n;
+    }
+    meet_pattern(flags, words, 3 * j, spans, ask);
+    j + 1
 }
 
 // A 1 at each part of which one of n pieces is met.
@@ -120,8 +155,7 @@ fn meet(flags: &mut [u8], words: &[u64], n: usize, spans: &[u64], ask: Ask)
     let reach = reach_of(spans, ask);
     let mut i = 0;
     while i < n {
-        meet_one(flags, words, 3 * i, spans, reach, ask);
-        i += 1;
+        i = meet_run(flags, words, i, n, spans, reach, ask);
     }
 }
 
