@@ -99,9 +99,6 @@ plan-asked t p w from mid to end low lo hi parts o el elo ehi ep =
       count = ep;
     }
 
-pub part-few : (w : List ℕ) (mid to : ℕ) → to < 196608 → length (segment w mid to) < 196608
-part-few w mid to h = simp (length-take, length-drop) (omega arith)
-
 pub in-type : (t : Table) (p v : ℕ) → inType (pointAt t p) v ≡ true → (lowest (pointAt t p) ≤ v) × (v ≤ highest (pointAt t p))
 in-type t p v e = (leb-true (lowest (pointAt t p)) v (and-left (leb (lowest (pointAt t p)) v) (leb v (highest (pointAt t p))) e), leb-true v (highest (pointAt t p)) (and-right (leb (lowest (pointAt t p)) v) (leb v (highest (pointAt t p))) e))
 

@@ -26,7 +26,7 @@ use Rattle.parts.specs.Rows.{raiseAll}
 use Rattle.parts.proofs.FlagLaws.{raised-row}
 use Rattle.parts.proofs.RaiseLaws.{cleared}
 use Rattle.pieces.specs.Pieces.{Piece, pieceAt, piecesAt}
-use Rattle.pieces.specs.Met.{leftIn, patternMet, isMet, metParts, metOne, metFlags, nextFit}
+use Rattle.pieces.specs.Met.{leftIn, patternMet, isMet, reachEnd, metParts, metOne, metFlags, nextFit}
 
 -- ---- the next value that fits
 
@@ -147,16 +147,42 @@ is-found f bits mask v free b ef eb = ap₂ (λ (x : ℕ) (c : Bool). eqb x v &&
 
 -- ---- one piece
 
+reached : (a b hi x : ℕ) → (ltb a (reachEnd x hi) && leb x b) ≡ ((leb a hi && leb x b) && leb x hi)
+reached a b hi x = go (leb x hi)
+  where
+    all-true : (y : Bool) → y ≡ (y && true)
+    all-true true = refl
+    all-true false = refl
+
+    none : (y z : Bool) → (y && z) ≡ false → (y && z) ≡ ((leb a hi && z) && false)
+    none y z e = e ∙ sym (never (leb a hi && z))
+      where
+        never : (y : Bool) → (y && false) ≡ false
+        never true = refl
+        never false = refl
+
+    go : (c : Bool) → (ltb a (cond c (hi + 1) 0) && leb x b) ≡ ((leb a hi && leb x b) && c)
+    go true = ap (_&& leb x b) (bool-eq (ltb a (hi + 1)) (leb a hi) (λ e. le-leb a hi (omega (arith, ltb-true a (hi + 1) e))) (λ e. lt-ltb a (hi + 1) (omega (arith, leb-true a hi e)))) ∙ all-true (leb a hi && leb x b)
+    go false = none (ltb a 0) (leb x b) (ap (_&& leb x b) (le-ltb a 0 (omega arith)))
+
 module _ (f : ℕ → ℕ) (lo hi : ℕ) (w : List ℕ) (at : ℕ) where
-  pub span-met : (from a b k : ℕ) → from ≡ f lo → a ≡ getD w at 0 → b ≡ getD w (at + 1) 0 → k ≡ getD w (at + 2) 0 → k < 65536
-      → ((leb a hi && leb from b) && leb from hi) ≡ isMet f lo hi (pieceAt w at .range)
-  span-met from a b k ef ea eb ek h =
-      rw (ef, ea, eb) (sym (ap (λ (c : Bool). isMet f lo hi (cond c (span (getD w at 0) (getD w (at + 1) 0)) (pattern (getD w at 0) (getD w (at + 1) 0)))) (lt-ltb (getD w (at + 2) 0) 65536 (omega arith))))
+  span-met : (from end a b k : ℕ) → from ≡ f lo → end ≡ reachEnd from hi → a ≡ getD w at 0 → b ≡ getD w (at + 1) 0 → k ≡ getD w (at + 2) 0 → k < 65536
+      → (ltb a end && leb from b) ≡ isMet f lo hi (pieceAt w at .range)
+  span-met from end a b k ef ee ea eb ek h =
+      ap (λ (e : ℕ). ltb a e && leb from b) ee
+      ∙ reached a b hi from
+      ∙ rw (ef, ea, eb) (sym (ap (λ (c : Bool). isMet f lo hi (cond c (span (getD w at 0) (getD w (at + 1) 0)) (pattern (getD w at 0) (getD w (at + 1) 0)))) (lt-ltb (getD w (at + 2) 0) 65536 (omega arith))))
 
   pub pattern-piece : (a b k : ℕ) (y : Bool) → a ≡ getD w at 0 → b ≡ getD w (at + 1) 0 → k ≡ getD w (at + 2) 0 → 65536 ≤ k → y ≡ patternMet f a b lo hi → y ≡ isMet f lo hi (pieceAt w at .range)
   pattern-piece a b k y ea eb ek h e =
       e ∙ ap₂ (λ (x z : ℕ). patternMet f x z lo hi) ea eb
       ∙ sym (ap (λ (c : Bool). isMet f lo hi (cond c (span (getD w at 0) (getD w (at + 1) 0)) (pattern (getD w at 0) (getD w (at + 1) 0)))) (le-ltb (getD w (at + 2) 0) 65536 (omega arith)))
+
+  pub span-one : (from end a b k : ℕ) (l l′ : List ℕ) → from ≡ f lo → end ≡ reachEnd from hi → a ≡ getD w at 0 → b ≡ getD w (at + 1) 0 → k ≡ getD w (at + 2) 0 → k < 65536
+      → l′ ≡ cond (ltb a end && leb from b) (set l k 1) l → l′ ≡ metOne f lo hi (pieceAt w at) l
+  unfolding metOne
+  span-one from end a b k l l′ ef ee ea eb ek h e =
+      e ∙ ap₂ (λ (c : Bool) (j : ℕ). cond c (set l j 1) l) (span-met from end a b k ef ee ea eb ek h) (let z : k ≡ getD w (at + 2) 0 % 65536 = omega arith in z)
 
   module _ (l : List ℕ) (y : Bool) (e : y ≡ isMet f lo hi (pieceAt w at .range)) where
     pub met-off : y ≡ false → l ≡ metOne f lo hi (pieceAt w at) l
@@ -193,6 +219,9 @@ module _ (f : ℕ → ℕ) (lo hi : ℕ) (w : List ℕ) (n : ℕ) where
   pub met-end : (i : ℕ) (l : List ℕ) → n ≤ i → raiseAll (metParts f lo hi (piecesAt w (3 * i) (n - i))) l ≡ l
   unfolding rows metParts raiseAll
   met-end i l h = ap (λ (m : ℕ). raiseAll (metParts f lo hi (piecesAt w (3 * i) m)) l) (none-left n i h)
+
+  pub met-none : (i : ℕ) (l : List ℕ) → n ≤ i → raiseAll (metParts f lo hi (piecesAt w (3 * n) (n - n))) l ≡ raiseAll (metParts f lo hi (piecesAt w (3 * i) (n - i))) l
+  met-none i l h = met-end n l (omega arith) ∙ sym (met-end i l h)
 
   pub met-all : (l l₁ l₂ : List ℕ) → l₁ ≡ put 0 (replicate (length l) 0) l → l₂ ≡ raiseAll (metParts f lo hi (piecesAt w 0 n)) l₁ → l₂ ≡ metFlags f lo hi (piecesAt w 0 n) (length l)
   unfolding metFlags

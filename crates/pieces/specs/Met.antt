@@ -1,6 +1,6 @@
 -- Which parts of a point still hold a value from lo to hi, by one look at each of its pieces.
 -- Assumes nothing.
-use Prim.Native.Nat.{ℕ, _<_, _≤_, _/_, suc, _-_}
+use Prim.Native.Nat.{ℕ, _<_, _≤_, _/_, suc, _+_, _-_}
 use mathlib.Core.Path.{_≡_}
 use mathlib.Core.Bool.{Bool, true, _&&_, cond}
 use mathlib.Core.List.{List, [], _∷_, map}
@@ -26,6 +26,10 @@ patternMet f bits mask lo hi = any (leftIn f bits mask) (upFrom lo (suc hi - lo)
 abbrev pub isMet : (ℕ → ℕ) → ℕ → ℕ → Range → Bool
 isMet f lo hi (span a b) = (leb a hi && leb (f lo) b) && leb (f lo) hi
 isMet f lo hi (pattern bits mask) = patternMet f bits mask lo hi
+
+-- below what a span begins that is met, where x is the first value from lo up that is left and the span reaches up to it
+abbrev pub reachEnd : ℕ → ℕ → ℕ
+reachEnd x hi = cond (leb x hi) (hi + 1) 0
 
 -- the parts of the pieces that are met
 unfoldable pub metParts : (ℕ → ℕ) → ℕ → ℕ → List Piece → List ℕ

@@ -178,6 +178,30 @@ fn larger(a: usize, b: usize) -> usize
     if a < b { b } else { a }
 }
 
+// The same for a table of n ranges or value bins, whichever are more, by the first class from `class` on that has room. It calls itself, so that a class's arrays stay out of the others' frames.
+fn put_sized(plan: &mut [u64], bounds: &mut [u16], t: &[u8], n: usize, class: usize)
+    requires { ⌜ (accepted (now t) ≡ true) × (planNeed (tableOf (now t)) ≤ length (now plan)) × (49 ≤ length (now bounds)) × (recordCount (now t) 2 ≤ n) × (recordCount (now t) 1 ≤ n) ⌝ }
+    ensures { λ _. ⌜ ValuesPlan (tableOf (now (t .entry))) (now (plan .exit)) (now (bounds .exit)) × (length (now (plan .exit)) ≡ length (now (plan .entry))) × (length (now (bounds .exit)) ≡ length (now (bounds .entry))) ⌝ }
+{
+    if class == 0 {
+        if n <= 64 {
+            put_small(plan, bounds, t);
+            return;
+        }
+        put_sized(plan, bounds, t, n, 1);
+        return;
+    }
+    if class == 1 {
+        if n <= 256 {
+            put_medium(plan, bounds, t);
+            return;
+        }
+        put_sized(plan, bounds, t, n, 2);
+        return;
+    }
+    put_largest(plan, bounds, t);
+}
+
 // The plan of all points: the spans of point p from bound 3 p on, its pieces from bound 3 p + 1 on, its rows from bound 3 p + 2 to bound 3 p + 3.
 pub fn put_plan(plan: &mut [u64], bounds: &mut [u16], t: &[u8])
     requires { ⌜ (accepted (now t) ≡ true) × (planNeed (tableOf (now t)) ≤ length (now plan)) × (49 ≤ length (now bounds)) ⌝ }
@@ -185,13 +209,5 @@ pub fn put_plan(plan: &mut [u64], bounds: &mut [u16], t: &[u8])
 {
     let l = bin_sections(t);
     let n = larger(l.range_count, l.bin_count);
-    if n <= 64 {
-        put_small(plan, bounds, t);
-        return;
-    }
-    if n <= 256 {
-        put_medium(plan, bounds, t);
-        return;
-    }
-    put_largest(plan, bounds, t);
+    put_sized(plan, bounds, t, n, 0);
 }

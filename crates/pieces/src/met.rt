@@ -1,14 +1,13 @@
 // Which parts of a point still hold a value from lo to hi, by its pieces.
 use arrays::put_same;
-use parts::rows::word;
 use ranges::next::larger;
 use ranges::next::less;
 use ranges::next::next_pattern;
 use spans::lookup::free_value;
 ghost use mathlib.Core.Path.{_≡_};
-ghost use mathlib.Core.Bool.{true};
-ghost use Prim.Native.Nat.{ℕ, _<_, _≤_, _+_, _*_, _/_, _%_};
-ghost use lib.ListN.{length};
+ghost use mathlib.Core.Bool.{true, cond};
+ghost use Prim.Native.Nat.{ℕ, _<_, _≤_, _+_, _-_, _*_, _/_};
+ghost use lib.ListN.{length, getD, set};
 ghost use Rattle.model.specs.Table.{Table, pattern};
 ghost use Rattle.model.specs.Values.{inRange};
 ghost use Rattle.model.proofs.Readers.{All};
@@ -17,7 +16,7 @@ ghost use Rattle.spans.specs.Spans.{apart};
 ghost use Rattle.spans.specs.Point.{freeValue};
 ghost use Rattle.parts.specs.Rows.{raiseAll};
 ghost use Rattle.pieces.specs.Pieces.{pieceAt, piecesAt, metBits};
-ghost use Rattle.pieces.specs.Met.{patternMet, isMet, metParts, metOne, metFlags, nextFit, PartBelow, Asked};
+ghost use Rattle.pieces.specs.Met.{patternMet, reachEnd, metParts, metOne, metFlags, nextFit, PartBelow, Asked};
 
 // The lowest value of the point's type, two values of it, and how many parts the point has.
 pub struct Ask {
@@ -61,49 +60,108 @@ fn pattern_met(spans: &[u64], bits: u64, mask: u64, ask: Ask) -> bool
     false
 }
 
-// The piece at at is met. from is the first value from lo up that is left.
-fn is_met(words: &[u64], at: usize, spans: &[u64], from: u64, ask: Ask) -> bool
-    requires { ⌜ (at < 1000000000) × (from ≡ freeValue (now spans) (ask .low) (ask .lo)) × (apart (now spans) ≡ true) × (ask .low ≤ ask .lo) × (ask .lo < 8589934592) × (ask .hi < 8589934592) ⌝ }
-    ensures { λ r. ⌜ r ≡ isMet (freeValue (now (spans .entry)) (ask .low)) (ask .lo) (ask .hi) (pieceAt (now (words .entry)) at .range) ⌝ }
-{
-    let a = word(words, at);
-    let b = word(words, at + 1);
-    if word(words, at + 2) < 65536 {
-        return (a <= ask.hi) & (from <= b) & (from <= ask.hi);
-    }
-    pattern_met(spans, a, b, ask)
-}
-
-// A 1 at its part, if it is met.
-fn meet_one(flags: &mut [u8], words: &[u64], at: usize, spans: &[u64], from: u64, ask: Ask)
-    requires { ⌜ (at < 1000000000) × (from ≡ freeValue (now spans) (ask .low) (ask .lo)) × (apart (now spans) ≡ true) × (ask .low ≤ ask .lo) × (ask .lo < 8589934592) × (ask .hi < 8589934592) ⌝ }
+// A 1 at the part of the pattern at at, if it is met.
+fn meet_pattern(flags: &mut [u8], words: &[u64], at: usize, spans: &[u64], ask: Ask)
+    requires { ⌜ (at + 3 ≤ length (now words)) × (65536 ≤ getD (now words) (at + 2) 0) × (apart (now spans) ≡ true) × (ask .low ≤ ask .lo) × (ask .lo < 8589934592) × (ask .hi < 8589934592) ⌝ }
     requires { ⌜ PartBelow (length (now flags)) (pieceAt (now words) at) ⌝ }
     ensures { λ _. ⌜ now (flags .exit) ≡ metOne (freeValue (now (spans .entry)) (ask .low)) (ask .lo) (ask .hi) (pieceAt (now (words .entry)) at) (now (flags .entry)) ⌝ }
 {
-    if !is_met(words, at, spans, from, ask) {
+    let bits = words[at];
+    let mask = words[at + 1];
+    if !pattern_met(spans, bits, mask, ask) {
         return;
     }
-    let k = (word(words, at + 2) % 65536) as usize;
+    let k = (words[at + 2] % 65536) as usize;
     flags[k] = 1;
+}
+
+// The first value from lo up that is left, and below what a span begins that reaches up to it: hi + 1, or 0 where that value is above hi.
+pub struct Reach {
+    pub from: u64,
+    pub end: u64,
+}
+
+fn reach_of(spans: &[u64], ask: Ask) -> Reach
+    requires { ⌜ (apart (now spans) ≡ true) × (ask .low ≤ ask .lo) × (ask .lo < 8589934592) × (ask .hi < 8589934592) ⌝ }
+    ensures { λ r. ⌜ (r .from ≡ freeValue (now (spans .entry)) (ask .low) (ask .lo)) × (r .end ≡ reachEnd (r .from) (ask .hi)) ⌝ }
+{
+    let from = free_value(spans, ask.low, ask.lo);
+    let end = if from <= ask.hi { ask.hi + 1 } else { 0 };
+    Reach {
+        from: from,
+        end: end,
+    }
+}
+
+// A 1 at k, if it is on.
+fn mark(flags: &mut [u8], k: usize, on: bool)
+    requires { ⌜ k < length (now flags) ⌝ }
+    ensures { λ _. ⌜ now (flags .exit) ≡ cond on (set (now (flags .entry)) k 1) (now (flags .entry)) ⌝ }
+{
+    if on {
+        flags[k] = 1;
+    }
+}
+
+// A 1 at the part of each span that is met, from piece i to the first pattern. Answers which piece that is, or n.
+fn meet_spans(flags: &mut [u8], words: &[u64], i: usize, n: usize, reach: Reach) -> usize
+    requires { ⌜ (i ≤ n) × (3 * n ≤ length (now words)) × All (PartBelow (length (now flags))) (piecesAt (now words) 0 n) ⌝ }
+    ensures { λ r. ⌜ (i ≤ r) × (r ≤ n) × (r < n → 65536 ≤ getD (now (words .entry)) (3 * r + 2) 0) ⌝ }
+    ensures { λ r. ⌜ ((f : ℕ → ℕ) (lo hi : ℕ) → reach .from ≡ f lo → reach .end ≡ reachEnd (reach .from) hi → raiseAll (metParts f lo hi (piecesAt (now (words .entry)) (3 * r) (n - r))) (now (flags .exit)) ≡ raiseAll (metParts f lo hi (piecesAt (now (words .entry)) (3 * i) (n - i))) (now (flags .entry))) ⌝ }
+{
+    let mut j = i;
+    while j < n {
+        let at = 3 * j;
+        let k = words[at + 2];
+        if 65536 <= k {
+            return j;
+        }
+        let a = words[at];
+        let b = words[at + 1];
+        mark(flags, k as usize, (a < reach.end) & (reach.from <= b));
+        j += 1;
+    }
+    n
+}
+
+// A 1 at each part of which one of the pieces from i to the first pattern is met, or to n. Answers where the next one is.
+fn meet_run(
+    flags: &mut [u8],
+    words: &[u64],
+    i: usize,
+    n: usize,
+    spans: &[u64],
+    reach: Reach,
+    ask: Ask,
+) -> usize
+    requires { ⌜ (i < n) × (3 * n ≤ length (now words)) × (reach .from ≡ freeValue (now spans) (ask .low) (ask .lo)) × (reach .end ≡ reachEnd (reach .from) (ask .hi)) × (apart (now spans) ≡ true) × (ask .low ≤ ask .lo) × (ask .lo < 8589934592) × (ask .hi < 8589934592) ⌝ }
+    requires { ⌜ All (PartBelow (length (now flags))) (piecesAt (now words) 0 n) ⌝ }
+    ensures { λ r. ⌜ (i < r) × (r ≤ n) × (raiseAll (metParts (freeValue (now (spans .entry)) (ask .low)) (ask .lo) (ask .hi) (piecesAt (now (words .entry)) (3 * r) (n - r))) (now (flags .exit)) ≡ raiseAll (metParts (freeValue (now (spans .entry)) (ask .low)) (ask .lo) (ask .hi) (piecesAt (now (words .entry)) (3 * i) (n - i))) (now (flags .entry))) ⌝ }
+{
+    let j = meet_spans(flags, words, i, n, reach);
+    if n <= j {
+        return n;
+    }
+    meet_pattern(flags, words, 3 * j, spans, ask);
+    j + 1
 }
 
 // A 1 at each part of which one of n pieces is met.
 fn meet(flags: &mut [u8], words: &[u64], n: usize, spans: &[u64], ask: Ask)
-    requires { ⌜ (n < 65536) × (apart (now spans) ≡ true) × (ask .low ≤ ask .lo) × (ask .lo < 8589934592) × (ask .hi < 8589934592) ⌝ }
+    requires { ⌜ (3 * n ≤ length (now words)) × (apart (now spans) ≡ true) × (ask .low ≤ ask .lo) × (ask .lo < 8589934592) × (ask .hi < 8589934592) ⌝ }
     requires { ⌜ All (PartBelow (length (now flags))) (piecesAt (now words) 0 n) ⌝ }
     ensures { λ _. ⌜ now (flags .exit) ≡ raiseAll (metParts (freeValue (now (spans .entry)) (ask .low)) (ask .lo) (ask .hi) (piecesAt (now (words .entry)) 0 n)) (now (flags .entry)) ⌝ }
 {
-    let from = free_value(spans, ask.low, ask.lo);
+    let reach = reach_of(spans, ask);
     let mut i = 0;
     while i < n {
-        meet_one(flags, words, 3 * i, spans, from, ask);
-        i += 1;
+        i = meet_run(flags, words, i, n, spans, reach, ask);
     }
 }
 
 // A byte for each part: 1 where one of its pieces is met.
 fn put_flags(flags: &mut [u8], words: &[u64], n: usize, spans: &[u64], ask: Ask)
-    requires { ⌜ (n < 65536) × (apart (now spans) ≡ true) × (ask .low ≤ ask .lo) × (ask .lo < 8589934592) × (ask .hi < 8589934592) ⌝ }
+    requires { ⌜ (3 * n ≤ length (now words)) × (apart (now spans) ≡ true) × (ask .low ≤ ask .lo) × (ask .lo < 8589934592) × (ask .hi < 8589934592) ⌝ }
     requires { ⌜ All (PartBelow (length (now flags))) (piecesAt (now words) 0 n) ⌝ }
     ensures { λ _. ⌜ now (flags .exit) ≡ metFlags (freeValue (now (spans .entry)) (ask .low)) (ask .lo) (ask .hi) (piecesAt (now (words .entry)) 0 n) (length (now (flags .entry))) ⌝ }
 {
@@ -114,7 +172,7 @@ fn put_flags(flags: &mut [u8], words: &[u64], n: usize, spans: &[u64], ask: Ask)
 
 // For each part of the point: whether it still holds a value from lo to hi. words has the point's pieces, three words each.
 pub fn put_met(out: &mut [u8], at: usize, words: &[u64], spans: &[u64], ask: Ask)
-    requires { ⌜ (at + ask .parts ≤ length (now out)) × (length (now words) < 196608) × All (PartBelow (ask .parts)) (piecesAt (now words) 0 (length (now words) / 3)) ⌝ }
+    requires { ⌜ (at + ask .parts ≤ length (now out)) × All (PartBelow (ask .parts)) (piecesAt (now words) 0 (length (now words) / 3)) ⌝ }
     requires { ⌜ (apart (now spans) ≡ true) × (ask .low ≤ ask .lo) × (ask .lo < 8589934592) × (ask .hi < 8589934592) ⌝ }
     ensures { λ _. ⌜ ((t : Table) (p : ℕ) → Asked t p (now (spans .entry)) (now (words .entry)) (ask .low) (ask .lo) (ask .hi) (ask .parts) → now (out .exit) ≡ put at (metBits t p (ask .lo) (ask .hi)) (now (out .entry))) ⌝ }
 {

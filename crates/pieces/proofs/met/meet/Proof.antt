@@ -1,56 +1,46 @@
 use mathlib.Core.Path.{_≡_, refl, sym, _∙_}
 use Prim.Native.Nat.{_-_, _*_, _≤_}
-use native.Mathlib.Nat.{zero-add}
 use native.Mathlib.Omega.{arith}
 use lib.ListN.{length}
-use borrow.Author.Needs.{needs}
 use Rattle.spans.specs.Point.{freeValue}
 use Rattle.parts.specs.Rows.{raiseAll}
-use Rattle.parts.proofs.RaiseLaws.{row-in}
-use Rattle.pieces.specs.Pieces.{pieceAt, piecesAt}
-use Rattle.pieces.specs.Met.{metParts, PartBelow}
-use Rattle.pieces.proofs.SearchLaws.{met-start, met-turn, met-end}
+use Rattle.pieces.specs.Pieces.{piecesAt}
+use Rattle.pieces.specs.Met.{metParts, reachEnd}
+use Rattle.pieces.proofs.SearchLaws.{met-start, met-end}
+use borrow.Author.Needs.{needs}
 use Rattle.pieces.proofs.met.meet.Statement.{statement}
 use Rattle.pieces.proofs.met.meet.Tie as tie
 
 abbrev Inv-loop : tie.InvT-loop
-Inv-loop flags₀ words n spans ask from i₀ flags i =
-    (i ≤ n) × (length flags ≡ length flags₀) × (raiseAll (metParts (freeValue spans (ask .low)) (ask .lo) (ask .hi) (piecesAt words (3 * i) (n - i))) flags ≡ raiseAll (metParts (freeValue spans (ask .low)) (ask .lo) (ask .hi) (piecesAt words 0 n)) flags₀) × (from ≡ freeValue spans (ask .low) (ask .lo))
+Inv-loop flags₀ words n spans ask reach i₀ flags i =
+    (i ≤ n) × (length flags ≡ length flags₀) × (raiseAll (metParts (freeValue spans (ask .low)) (ask .lo) (ask .hi) (piecesAt words (3 * i) (n - i))) flags ≡ raiseAll (metParts (freeValue spans (ask .low)) (ask .lo) (ask .hi) (piecesAt words 0 n)) flags₀) × (reach .from ≡ freeValue spans (ask .low) (ask .lo)) × (reach .end ≡ reachEnd (reach .from) (ask .hi))
 
 abbrev μ-loop : tie.MeasureT-loop
-μ-loop flags₀ words n spans ask from i₀ flags i = n - i
+μ-loop flags₀ words n spans ask reach i₀ flags i = n - i
 
-free-value-requires : tie.Need-free-value-requires Inv-loop μ-loop
-free-value-requires c κs = (c .before .before .before .pre .0 .1, omega arith, omega arith)
+reach-of-requires : tie.Need-reach-of-requires Inv-loop μ-loop
+reach-of-requires c κs = let q = c .before .before .before .pre .0 in (q .1, q .2, q .3, q .4)
 
 loop-holds : tie.Need-loop-holds Inv-loop μ-loop
 loop-holds c =
     let a = c .before .before .before .before .args in
-    (omega arith, refl, met-start (freeValue (a .spans .now) (a .ask .low)) (a .ask .lo) (a .ask .hi) (a .words .now) (a .n) (a .flags .now), c .free-value .ensures .0)
+    let r = c .reach-of .ensures in
+    (omega arith, refl, met-start (freeValue (a .spans .now) (a .ask .low)) (a .ask .lo) (a .ask .hi) (a .words .now) (a .n) (a .flags .now), r .0, r .1)
 
-mul-meet-one : tie.Need-mul-meet-one Inv-loop μ-loop
-mul-meet-one c = omega arith
-
-meet-one-requires : tie.Need-meet-one-requires Inv-loop μ-loop
-meet-one-requires c κs =
-    let a = c .before .before .before .before .before .before .before .args in
+meet-run-requires : tie.Need-meet-run-requires Inv-loop μ-loop
+meet-run-requires c κs =
     let q = c .before .before .before .before .before .before .before .pre in
-    let l = c .before .before .loop in (
-      (omega arith, l .inv .3, q .0 .1, omega arith, omega arith, omega arith),
-      rw (l .inv .1) (rw zero-add at (row-in (PartBelow (length (a .flags .now))) (pieceAt (a .words .now)) 3 0 (a .n) (q .1) (l .i) (omega arith))),
-    )
-
-add-i : tie.Need-add-i Inv-loop μ-loop
-add-i c = omega arith
+    let l = c .before .before .loop in
+    ((omega arith, q .0 .0, l .inv .3, l .inv .4, q .0 .1, q .0 .2, q .0 .3, q .0 .4), rw (l .inv .1) (q .1))
 
 loop-less : tie.Need-loop-less Inv-loop μ-loop
-loop-less c = omega arith
+loop-less c = omega (arith, c .before .before .meet-run .ensures .0, c .before .before .meet-run .ensures .1)
 
 loop-again : tie.Need-loop-again Inv-loop μ-loop
 loop-again c =
-    let a = c .before .before .before .before .before .before .before .before .before .before .args in
     let l = c .before .before .before .before .before .loop in
-    (omega arith, search needs, met-turn (freeValue (a .spans .now) (a .ask .low)) (a .ask .lo) (a .ask .hi) (a .words .now) (a .n) (l .i) (l .flags) _ (omega arith) (c .before .before .meet-one .ensures) ∙ l .inv .2, l .inv .3)
+    let e = c .before .before .meet-run .ensures in
+    (e .1, search needs, e .2 ∙ l .inv .2, l .inv .3, l .inv .4)
 
 same-length : tie.Need-same-length Inv-loop μ-loop
 same-length c = c .before .loop .inv .1
@@ -67,11 +57,9 @@ meet-spec =
     (tie.spec
     Inv-loop
     μ-loop
-    free-value-requires
+    reach-of-requires
     loop-holds
-    mul-meet-one
-    meet-one-requires
-    add-i
+    meet-run-requires
     loop-less
     loop-again
     same-length

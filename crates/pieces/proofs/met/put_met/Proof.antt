@@ -21,7 +21,7 @@ put-flags-requires c κs =
     let a = c .before .before .before .before .before .args in
     let q = c .before .before .before .before .before .pre in
     let e = lent-length (a .at) (a .ask .parts) (a .out .now) (q .0 .0) in
-    ((omega (arith, q .0 .1), q .1 .0, q .1 .1, q .1 .2, q .1 .3), rw e (q .0 .2))
+    ((omega arith, q .1 .0, q .1 .1, q .1 .2, q .1 .3), rw e (q .0 .1))
 
 same-length : tie.Need-same-length
 same-length c = search needs

@@ -2,7 +2,7 @@ use mathlib.Core.Path.{refl}
 use native.Mathlib.Omega.{arith}
 use Rattle.model.specs.Format.{tableOf}
 use Rattle.model.proofs.RawExact.{few-points}
-use Rattle.pieces.proofs.PlanLaws.{plan-at, plan-parts, plan-asked, in-type, part-few}
+use Rattle.pieces.proofs.PlanLaws.{plan-at, plan-parts, plan-asked, in-type}
 use borrow.Author.Needs.{needs}
 use Rattle.pieces.proofs.plan.put_meets.Statement.{statement}
 use Rattle.pieces.proofs.plan.put_meets.Tie as tie
@@ -99,7 +99,7 @@ put-met-requires c κs =
     let b = c .before .before .before .limits-of .ensures in
     let lo = in-type (tableOf (a .t .now)) (a .q .point) (a .q .lo) (q .1 .2) in
     let hi = in-type (tableOf (a .t .now)) (a .q .point) (a .q .hi) (q .1 .3) in
-    ((q .1 .1, part-few (a .plan .now) (c .before .before .before .before .before .element2 .result) (c .before .before .before .before .element3 .result) (omega arith), plan-parts (tableOf (a .t .now)) (a .q .point) (a .plan .now) _ _ _ _ _ o (q .1 .0)), (o .spans .gaps, omega (arith, b .0, lo .0), omega (arith, b .1, b .3, lo .1), omega (arith, b .1, b .3, hi .1)))
+    ((q .1 .1, plan-parts (tableOf (a .t .now)) (a .q .point) (a .plan .now) _ _ _ _ _ o (q .1 .0)), (o .spans .gaps, omega (arith, b .0, lo .0), omega (arith, b .1, b .3, lo .1), omega (arith, b .1, b .3, hi .1)))
 
 same-length : tie.Need-same-length
 same-length c = search needs
