@@ -5,6 +5,7 @@ use words::bytes::read2;
 use words::bytes::whole2;
 use words::counts::section_count;
 use words::guards::bin_guard_ok;
+use words::guards::guard_ok;
 use words::verdicts::Verdict;
 use words::verdicts::fault;
 use words::verdicts::pick;
@@ -19,7 +20,7 @@ ghost use lib.ListN.{length};
 ghost use Rattle.model.specs.Lists.{any};
 ghost use Rattle.model.specs.Format.{firstDefault, binHead, binRules, readBinHeads, readBinSection};
 ghost use Rattle.words.specs.Verdicts.{verdict, verdictOf, verdictIn};
-ghost use Rattle.check_values.specs.Places.{defaultsUpTo, fieldsAt, readBin, isDefaultOf};
+ghost use Rattle.check_values.specs.Places.{defaultsUpTo, fieldsAt, plainBin, readBin, isDefaultOf};
 
 // Whether the bin at at is a default of point p.
 fn default_at(t: &[u8], at: usize, p: u8) -> bool
@@ -83,6 +84,19 @@ fn bin_at(t: &[u8], at: usize) -> Bin
     }
 }
 
+// Whether it is a cover or an illegal bin of form 0 that is sound: most bins are, and need no more tests.
+fn plain_bin(points: usize, bin: Bin) -> bool
+    ensures { λ r. ⌜ r ≡ plainBin points bin ⌝ }
+{
+    let kind = bin.kind;
+    let form = bin.form;
+    let number = bin.number;
+    let ranges = bin.ranges;
+    let known = (bin.point as usize) < points;
+    let guarded = guard_ok(bin.guard);
+    (form == 0) & (number == 0) & ((kind == 0) | (kind == 2)) & known & guarded & (1 <= ranges)
+}
+
 // The tests on a bin's fields; first says that it is no second default.
 fn bin_rules(points: usize, bin: Bin, first: bool, at: usize) -> Verdict
     requires { ⌜ at ≤ 65536 ⌝ }
@@ -125,6 +139,9 @@ fn bin_fault(t: &[u8], points: usize, base: usize, i: usize) -> Verdict
         return fault(2, at);
     }
     let bin = bin_at(t, at);
+    if plain_bin(points, bin) {
+        return sound(at + 8);
+    }
     let first = first_default(t, base, i);
     bin_rules(points, bin, first, at)
 }

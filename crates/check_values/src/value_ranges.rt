@@ -1,5 +1,6 @@
 // Section 3: the ranges of the value bins.
 use ranges::ranges_of;
+use ranges::sound_spans;
 use words::bytes::inside;
 use words::bytes::whole2;
 use words::counts::owned_count;
@@ -41,7 +42,11 @@ fn bin_ranges(t: &[u8], points: usize, np: usize, bin: usize, at: usize) -> Verd
     let kind = inside(t, bin + 1);
     let form = inside(t, bin + 2);
     let n = whole2(t, bin + 6) as usize;
-    ranges_of(t, points + 11 * p, (kind == 0) & (form == 0), n, at)
+    let point = points + 11 * p;
+    if sound_spans(t, point, n, at) {
+        return sound(at + 17 * n);
+    }
+    ranges_of(t, point, (kind == 0) & (form == 0), n, at)
 }
 
 // The ranges of the n bins whose records begin at bins.

@@ -1,4 +1,5 @@
 pub mod RangeLaws
+pub mod SpanLaws
 pub mod Searches
 pub mod NextLaws
 pub mod MemberLaws

@@ -1,12 +1,14 @@
 -- A point's type by its width and its sign, as inner code passes it on; points whose widths are known to be widths; ranges that are spans.
 -- Assumes nothing.
-use Prim.Native.Nat.{ℕ, _+_, _-_, _*_, _^_, _<_, _≤_}
-use mathlib.Core.Bool.{Bool, true, false, cond}
+use Prim.Native.Nat.{ℕ, zero, suc, _+_, _-_, _*_, _^_, _<_, _≤_}
+use mathlib.Core.Bool.{Bool, true, false, _&&_, cond}
 use mathlib.Core.List.{List}
+use lib.Dec.{leb, eqb}
+use lib.ListN.{length}
 use mathlib.Core.Option.{none}
 use Rattle.model.specs.Table.{Point, Range, span, pattern}
 use Rattle.model.specs.Values.{fieldValue}
-use Rattle.model.specs.Format.{byte}
+use Rattle.model.specs.Format.{byte, u64}
 use Rattle.ranges.specs.declared.Limits.{Limits}
 
 -- a point of a type
@@ -24,6 +26,22 @@ lowestOf width signed = cond signed (2 ^ 31 - powerOf (width - 1)) (2 ^ 31)
 
 unfoldable pub limitsOf : ℕ → Bool → Limits
 limitsOf width signed = record { low = lowestOf width signed; high = lowestOf width signed + powerOf width - 1 }
+
+-- the range at `at` is a span of values within the limits, in order
+unfoldable pub spanIn : List ℕ → Limits → ℕ → Bool
+spanIn s l at =
+    let a = valueAt (u64 s (at + 1)) in
+    let b = valueAt (u64 s (at + 9)) in
+    ((eqb (byte s at) 0 && leb (l .low) a) && leb a b) && leb b (l .high)
+
+-- so are n ranges from `at` on
+unfoldable pub spansIn : List ℕ → Limits → ℕ → ℕ → Bool
+spansIn s l zero at = true
+spansIn s l (suc n) at = spanIn s l at && spansIn s l n (at + 17)
+
+-- n ranges from `at` on are whole, and spans of values of the point whose record stands at `point`
+unfoldable pub soundSpans : List ℕ → ℕ → ℕ → ℕ → Bool
+soundSpans s point n at = leb (at + 17 * n) (length s) && spansIn s (limitsOf (byte s point) (eqb (byte s (point + 1)) 1)) n at
 
 -- the point whose record stands at `at` has a width from 1 to 32
 pub record Wide (s : List ℕ) (at : ℕ) : Type 0 where

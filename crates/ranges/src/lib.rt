@@ -13,12 +13,12 @@ use words::verdicts::sound;
 use words::verdicts::test;
 ghost use mathlib.Core.Path.{_≡_};
 ghost use mathlib.Core.Bool.{true};
-ghost use Prim.Native.Nat.{ℕ, _+_, _≤_};
+ghost use Prim.Native.Nat.{ℕ, _+_, _*_, _≤_};
 ghost use lib.ListN.{length};
 ghost use Rattle.model.specs.Lists.{within};
 ghost use Rattle.model.specs.Format.{valueTests, patternTests, rangeRules, readRange, pointRecord, times};
 ghost use Rattle.words.specs.Verdicts.{verdict, verdictOf, verdictIn};
-ghost use Rattle.ranges.specs.Types.{typed, powerOf, limitsOf, valueAt, lowestOf, Wide};
+ghost use Rattle.ranges.specs.Types.{typed, powerOf, limitsOf, valueAt, lowestOf, Wide, spanIn, spansIn, soundSpans};
 
 pub fn power(width: u8) -> u64
     requires { ⌜ width ≤ 32 ⌝ }
@@ -139,6 +139,48 @@ fn range_fault(t: &[u8], width: u8, signed: bool, patterns: bool, at: usize) -> 
     let a = whole8(t, at + 1);
     let b = whole8(t, at + 9);
     range_rules(width, signed, patterns, kind, a, b, at)
+}
+
+// Whether the range at at is a span of values within the limits, in order.
+fn span_in(t: &[u8], l: Limits, at: usize) -> bool
+    requires { ⌜ (at + 17 ≤ length (now t)) × (length (now t) ≤ 65536) ⌝ }
+    ensures { λ r. ⌜ r ≡ spanIn (now (t .entry)) l at ⌝ }
+{
+    let kind = inside(t, at);
+    let a = value_at(whole8(t, at + 1));
+    let b = value_at(whole8(t, at + 9));
+    (kind == 0) & (l.low <= a) & (a <= b) & (b <= l.high)
+}
+
+// Whether n ranges from start on are.
+fn spans_in(t: &[u8], l: Limits, n: usize, start: usize) -> bool
+    requires { ⌜ (start + 17 * n ≤ length (now t)) × (length (now t) ≤ 65536) ⌝ }
+    ensures { λ r. ⌜ r ≡ spansIn (now (t .entry)) l n start ⌝ }
+{
+    let mut at = start;
+    let mut i = 0;
+    while i < n {
+        if !span_in(t, l, at) {
+            return false;
+        }
+        at += 17;
+        i += 1;
+    }
+    true
+}
+
+// Whether n ranges from start on are whole, and spans of the point whose record is at point: most ranges are, and need no more tests.
+pub fn sound_spans(t: &[u8], point: usize, n: usize, start: usize) -> bool
+    requires { ⌜ (start ≤ 65536) × (n ≤ 65535) × (point + 2 ≤ length (now t)) × (length (now t) ≤ 65536) × Wide (now t) point ⌝ }
+    ensures { λ r. ⌜ r ≡ soundSpans (now (t .entry)) point n start ⌝ }
+{
+    if t.len() < start + 17 * n {
+        return false;
+    }
+    let width = inside(t, point);
+    let signed = inside(t, point + 1);
+    let l = limits_of(width, signed == 1);
+    spans_in(t, l, n, start)
 }
 
 // n ranges from start on.
