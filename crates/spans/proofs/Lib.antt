@@ -6,3 +6,4 @@ pub mod CollectLaws
 pub mod Exact
 pub mod Point
 pub mod PartLaws
+pub mod PassLaws

@@ -2,11 +2,14 @@
 -- Assumes nothing.
 use Prim.Native.Nat.{ℕ, zero, suc, _+_, _*_, _≤_, _<_}
 use mathlib.Core.Path.{_≡_}
-use mathlib.Core.Bool.{false}
+use mathlib.Core.Bool.{false, cond}
 use mathlib.Core.List.{List}
 use lib.Dec.{eqb}
+use lib.ListN.{getD}
 use Rattle.model.specs.Format.{byte, u16}
 use Rattle.model.specs.Raw.{recordsPlace, recordCount}
+use Rattle.spans.specs.declared.collects.Bins.{Bins}
+use Rattle.spans.specs.declared.part.Parts.{Parts}
 
 -- the bin at a is another point's
 abbrev pub Other : List ℕ → ℕ → ℕ → Type 0
@@ -38,3 +41,24 @@ pub record PartOf (s : List ℕ) (p a r n b q m : ℕ) : Type 0 where
 -- of the value bins of the table
 abbrev pub OwnPart : List ℕ → ℕ → ℕ → ℕ → ℕ → Type 0
 OwnPart s p b q m = PartOf s p (recordsPlace s 1) (recordsPlace s 2) (recordCount s 1) b q m
+
+-- the same, at places and with a count that are small
+pub record OwnBins (s : List ℕ) (p : ℕ) (own : Bins) : Type 0 where
+  pub part : OwnPart s p (own .bins) (own .ranges) (own .count)
+  pub near : own .bins < 1000000000
+  pub nearRanges : own .ranges < 1000000000
+  pub few : own .count ≤ 512
+
+-- ---- all points in one pass
+
+-- where a point's bins, or their ranges, begin: it has had n bins, which begin at `first`, and the next one is at a
+abbrev pub kept : ℕ → ℕ → ℕ → ℕ
+kept n first a = cond (eqb n 0) a first
+
+-- point p's among those of all points
+abbrev pub partOf : Parts → ℕ → Bins
+partOf x p = record { bins = getD (x .bins) p 0; ranges = getD (x .ranges) p 0; count = getD (x .counts) p 0 }
+
+-- every point's
+abbrev pub OwnParts : List ℕ → Parts → Type 0
+OwnParts s x = (p : ℕ) → p < 16 → OwnBins s p (partOf x p)
