@@ -40,10 +40,10 @@ origins-at t p a h few room o k i =
     ∙ o p k h i
 
 -- its segment of rows
-pub rows-of : (t : Table) (p : ℕ) (w : List ℕ) (from mid rows to : ℕ) → PointPlan t p w from mid rows to → RowsOf t p (planRowsAt (segment w rows to) 0 (length (segment w rows to) / 7)) (length (covers t p))
-rows-of t p w from mid rows to o =
-    let long : length (take (to - rows) (drop rows w)) ≡ to - rows = simp (length-take, length-drop) (omega (arith, o .order₂, o .order₃)) in
-    subst (λ (n : ℕ). RowsOf t p (planRowsAt (segment w rows to) 0 (n / 7)) (length (covers t p))) (sym long) (o .rowsOf)
+pub rows-of : (t : Table) (p : ℕ) (w : List ℕ) (from mid cuts to : ℕ) → PointPlan t p w from mid cuts to → RowsOf t p (planRowsAt (segment w from mid) 0 (length (segment w from mid) / 7)) (length (covers t p))
+rows-of t p w from mid cuts to o =
+    let long : length (take (mid - from) (drop from w)) ≡ mid - from = simp (length-take, length-drop) (omega (arith, o .order, o .order₁, o .order₂, o .order₃)) in
+    subst (λ (n : ℕ). RowsOf t p (planRowsAt (segment w from mid) 0 (n / 7)) (length (covers t p))) (sym long) (o .rowsOf)
 
 -- its reading
 pub code-at : (t : Table) (w a : List ℕ) (p : ℕ) → Readings t w a → p < pointTotal t → getD a p 0 ≡ readingCode (reading t w p)

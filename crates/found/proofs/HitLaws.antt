@@ -172,7 +172,7 @@ module _ (s w : List ℕ) (ok : accepted s ≡ true) (widths : inWidths (tableOf
 
   pub rows-fit : (rs : List Row) → RowsOf (tableOf s) p rs (length (covers (tableOf s) p)) → All (RowFits 256) rs
   rows-fit rs of =
-      all-map (RowFits (length (covers T p))) (RowFits 256) (λ r x. record { bin = x .bin; before = x .before; share = x .share; room = omega (arith, x .room, few-covers) }) rs (of .fits)
+      all-map (RowFits (length (covers T p))) (RowFits 256) (λ r x. record { before = x .before; share = x .share; room = omega (arith, x .room, few-covers) }) rs (of .fits)
 
 -- ---- written
 

@@ -21,27 +21,24 @@ ghost use Rattle.arrays.specs.Flat.{readingCode, Readings, Origins};
 ghost use Rattle.pieces.specs.Plan.{ValuesPlan};
 ghost use Rattle.places.specs.Places.{hitParts, Found};
 
-// Where the spans, the pieces and the rows of a point begin in the plan, and where its rows end.
+// Where the rows, the spans and the pieces of a point begin in the plan.
 struct Bounds {
-    from: usize,
-    mid: usize,
     rows: usize,
-    to: usize,
+    spans: usize,
+    pieces: usize,
 }
 
 fn bounds_of(lists: &[u16], p: usize) -> Bounds
     requires { ⌜ p < 16 ⌝ }
-    ensures { λ r. ⌜ (r .from ≡ getD (now (lists .entry)) (3 * p) 0) × (r .mid ≡ getD (now (lists .entry)) (3 * p + 1) 0) × (r .rows ≡ getD (now (lists .entry)) (3 * p + 2) 0) × (r .to ≡ getD (now (lists .entry)) (3 * p + 3) 0) ⌝ }
+    ensures { λ r. ⌜ (r .rows ≡ getD (now (lists .entry)) (3 * p) 0) × (r .spans ≡ getD (now (lists .entry)) (3 * p + 1) 0) × (r .pieces ≡ getD (now (lists .entry)) (3 * p + 2) 0) ⌝ }
 {
-    let from = element(lists, 3 * p);
-    let mid = element(lists, 3 * p + 1);
-    let rows = element(lists, 3 * p + 2);
-    let to = element(lists, 3 * p + 3);
+    let rows = element(lists, 3 * p);
+    let spans = element(lists, 3 * p + 1);
+    let pieces = element(lists, 3 * p + 2);
     Bounds {
-        from: from as usize,
-        mid: mid as usize,
         rows: rows as usize,
-        to: to as usize,
+        spans: spans as usize,
+        pieces: pieces as usize,
     }
 }
 
@@ -60,14 +57,13 @@ fn find_point(
 {
     let p = r.point;
     let b = bounds_of(lists, p);
-    let from = b.from;
-    let mid = b.mid;
     let rows = b.rows;
-    let to = b.to;
+    let spans = b.spans;
+    let pieces = b.pieces;
     put_found(
         &mut found[257 * p..],
-        &plan[rows..to],
-        &plan[from..mid],
+        &plan[rows..spans],
+        &plan[spans..pieces],
         &lists[64 + 256 * p..],
         t,
         sample,

@@ -6,7 +6,7 @@ use mathlib.Core.List.{List, [], _∷_, _++_}
 use Prim.Native.Nat.{ℕ, zero, suc, _+_, _-_, _*_, _≤_, _<_}
 use native.Mathlib.Omega.{arith}
 use lib.Dec.{leb, eqb}
-use lib.ListN.{length, getD, length-map}
+use lib.ListN.{length, getD, take, length-map}
 use lib.Pow.{pow-mono}
 use borrow.Author.Tests.{leb-true, le-leb, ne-eqb, eqb-true}
 use Rattle.model.specs.Lists.{all, oneOf, asBit, sumOf, within}
@@ -38,15 +38,15 @@ use Rattle.spans.specs.Point.{rangesListed}
 use Rattle.spans.specs.Collected.{fitsFrom}
 use Rattle.spans.proofs.Ends.{both}
 use Rattle.spans.proofs.CollectLaws.{length-ranges}
-use Rattle.spans.proofs.Point.{bins-many, ranges-most, point-listed}
+use Rattle.spans.proofs.Point.{ranges-most, point-listed}
 use Rattle.parts.specs.Rows.{Source, countOf, settledRanges, rowRanges, isOwn, dealable, rising, ownSources, autoSources, sources, Row, partsAt, rowsFrom, partTotal, partFlags, distributedBit, distributedFlags}
-use Rattle.parts.specs.Words.{rowAt, rowsAt, ownAt, listedIf, ownListed, If, Fit, Fits, rangeTotal, allBinWords, sourcesAt, Planned, Room}
+use Rattle.parts.specs.Words.{planRowAt, planRowsAt, ownAt, listedIf, ownListed, If, Fit, Fits, rangeTotal, sourcesAt, Planned, Room}
 use Rattle.parts.specs.Point.{RowsOf, climbs}
 use Rattle.parts.proofs.SpanLaws.{settled-rises, settled-some, spans-fit}
 use Rattle.parts.proofs.FlagLaws.{Sounds}
 use Rattle.parts.proofs.Exact.{Deals, DealsIn, all-sound, parts-exact}
-use Rattle.parts.proofs.Plans.{own-is, range-words, bin-words, part-count, all-light}
-use Rattle.parts.proofs.PointPlans.{length-all, sources-raw}
+use Rattle.parts.proofs.Plans.{own-is, words-are, part-count, length-all}
+use Rattle.parts.proofs.PointPlans.{sources-raw}
 use Rattle.spans.specs.Part.{OwnPart}
 use Rattle.parts.proofs.Narrow.{part-fits, part-listed, part-room, part-sources}
 use Rattle.parts.proofs.RowLaws.{all-climb, rows-typed, all-typed, length-rows-from, own-fewer, few-ranges}
@@ -136,11 +136,6 @@ own-listed-fewer s p a r (suc n) = go (eqb (byte s a) p) (eqb (byte s (a + 1)) 0
     go true false h = omega arith
     go false d h = omega arith
 
-length-bin-words : (first : ℕ) (ss : List Source) → length (allBinWords first ss) ≡ 3 * length ss
-unfolding allBinWords
-length-bin-words first [] = omega arith
-length-bin-words first (s ∷ ss) = omega (arith, length-bin-words (first + countOf s) ss)
-
 total-parts : (xs ys : List Source) → partTotal (xs ++ ys) ≡ partTotal xs + partTotal ys
 unfolding partTotal sumOf
 total-parts [] ys = omega arith
@@ -199,38 +194,39 @@ module _ (s : List ℕ) (ok : accepted s ≡ true) (p : ℕ) (inside : p < point
   parts-are : partTotal (sources T p) ≡ length (covers T p)
   unfolding partFlags distributedFlags
   parts-are =
-      sym (length-row (λ j. asBit (oneOf j (partsAt 0 (rowsFrom 0 0 (sources T p))))) 0 (partTotal (sources T p)))
+      sym (length-row (λ j. asBit (oneOf j (partsAt 0 (rowsFrom 0 (sources T p))))) 0 (partTotal (sources T p)))
       ∙ ap length (parts-exact T w p 0 deals) ∙ length-map (covers T p) (distributedBit T 0)
 
   few-covers : length (covers T p) ≤ 256
   unfolding covers
   few-covers = omega (arith, covers-fewer (pointCounters T p), few-counters s T e p inside)
 
-  rule-of : (k v : ℕ) → k < partTotal (sources T p) → oneOf k (partsAt v (rowsFrom 0 0 (sources T p))) ≡ distributed T (getD (covers T p) k noCoverBin) v
+  rule-of : (k v : ℕ) → k < partTotal (sources T p) → oneOf k (partsAt v (rowsFrom 0 (sources T p))) ≡ distributed T (getD (covers T p) k noCoverBin) v
   unfolding partFlags distributedFlags
   rule-of k v h =
-      let rs = rowsFrom 0 0 (sources T p) in
+      let rs = rowsFrom 0 (sources T p) in
       bit-one (oneOf k (partsAt v rs)) (distributed T (getD (covers T p) k noCoverBin) v)
       (ap (λ (j : ℕ). asBit (oneOf j (partsAt v rs))) (let z : k ≡ 0 + k = omega arith in z)
       ∙ sym (getD-row (λ j. asBit (oneOf j (partsAt v rs))) 0 (partTotal (sources T p)) k 0 h)
       ∙ ap (λ (l : List ℕ). getD l k 0) (parts-exact T w p v deals)
       ∙ getD-map (distributedBit T v) (covers T p) k noCoverBin 0 (omega (arith, parts-are)))
 
-  rows-of : (x y : List ℕ) (n m : ℕ) → Planned (sources T p) x y n m → RowsOf (tableOf s) p (rowsAt x y 0 n) m × (n ≤ 1025) × (m ≤ 256)
-  rows-of x y n m plan =
+  rows-of : (v x : List ℕ) (at n m : ℕ) → Planned (sources T p) v x at n m → RowsOf (tableOf s) p (planRowsAt x at n) m × (n ≤ 1025) × (m ≤ 256) × (take at x ≡ take at v)
+  rows-of v x at n m plan =
       let ss = sources T p in
-      let many : length (rowsAt x y 0 n) ≡ n = length-rows (rowAt x y) 5 0 n in
-      let total : length (rowsAt x y 0 n) ≡ rangeTotal ss = ap length (plan .rows) ∙ length-rows-from 0 0 ss in (
+      let many : length (planRowsAt x at n) ≡ n = length-rows (planRowAt x) 7 at n in
+      let total : length (planRowsAt x at n) ≡ rangeTotal ss = ap length (plan .rows) ∙ length-rows-from 0 ss in (
         record {
           parts = plan .parts ∙ parts-are;
           rule = λ k v h. ap (λ (rs : List Row). oneOf k (partsAt v rs)) (plan .rows) ∙ rule-of k v (omega (arith, plan .parts));
           fits = plan .fits;
-          typed = rw (plan .rows) (rows-typed (pointAt T p) 0 0 ss (all-typed T w p));
-          rises = ap (climbs 0) (plan .rows) ∙ all-climb 0 0 0 ss (all-map (Sounds (pointAt T p) (point-at T w p) 0) (λ x. 1 ≤ countOf x) (λ x h. h .1) ss (all-sound T w p 0 deals)) (omega arith);
+          typed = rw (plan .rows) (rows-typed (pointAt T p) 0 ss (all-typed T w p));
+          rises = ap (climbs 0) (plan .rows) ∙ all-climb 0 0 ss (all-map (Sounds (pointAt T p) (point-at T w p) 0) (λ x. 1 ≤ countOf x) (λ x h. h .1) ss (all-sound T w p 0 deals)) (omega arith);
           few = omega (arith, total, few-ranges T p);
         },
         omega (arith, many, total, few-ranges T p, few-own),
         omega (arith, plan .parts, parts-are, few-covers),
+        plan .before,
       )
     where
       few-own : rangesListed T p ≤ 1024
@@ -253,19 +249,17 @@ module _ (s : List ℕ) (ok : accepted s ≡ true) (p : ℕ) (inside : p < point
   unfolding sources
   few-parts = omega (arith, total-parts (ownSources (lowest (pointAt T p)) p (T .valueBins)) (autoSources T p), parts-are, few-covers)
 
-  room-raw : (x y : List ℕ) → 5 * (rangesListed T p + 1) ≤ length x → 3 * (length (T .valueBins) + 1) ≤ length y → Room s (lowest (pointRecord s (recordsPlace s 0 + 11 * p))) p (recordsPlace s 1) (recordsPlace s 2) (recordCount s 1) x y
+  room-raw : (at : ℕ) (x : List ℕ) → at + 7 * (rangesListed T p + 1) ≤ length x → Room s (lowest (pointRecord s (recordsPlace s 0 + 11 * p))) p (recordsPlace s 1) (recordsPlace s 2) (recordCount s 1) at x
   unfolding rangesListed
-  room-raw x y hx hy =
+  room-raw at x h =
       let a = recordsPlace s 1 in
       let r = recordsPlace s 2 in
       let n = recordCount s 1 in
       let ss = ownSources low-raw p (binsAt s a r n) in
       let ranges : rangeTotal ss ≤ sumOf (λ b. cond (eqb (b .point) p) (length (b .ranges)) 0) (T .valueBins) = omega (arith, ap rangeTotal own-bins, own-fewer (lowest (pointAt T p)) p (T .valueBins)) in
       record {
-        some-ranges = omega arith;
-        some-bins = omega arith;
-        ranges = omega (arith, ap length (range-words s low-raw p 0 a r n), length-all 0 ss);
-        bins = omega (arith, ap length (bin-words s low-raw p 0 a r n), length-bin-words 0 ss, all-light s low-raw p a r n fits-raw .1, bins-many s ok);
+        some = omega arith;
+        words = omega (arith, ap length (words-are s low-raw p 0 a r n), length-all 0 ss);
         parts = omega (arith, part-count s low-raw p a r n, ap partTotal own-bins, few-parts);
       }
 
@@ -300,16 +294,16 @@ module _ (s : List ℕ) (ok : accepted s ≡ true) (p : ℕ) (inside : p < point
       pub listed-at : ownListed s p b m ≤ rangesListed T p
       listed-at = omega (arith, part-listed s p (recordsPlace s 1) (recordsPlace s 2) (recordCount s 1) b q m o, listed-raw)
 
-      pub room-at : (x y : List ℕ) → 5 * (rangesListed T p + 1) ≤ length x → 3 * (length (T .valueBins) + 1) ≤ length y → Room s (lowest (pointRecord s (l .points + 11 * p))) p b q m x y
+      pub room-at : (at : ℕ) (x : List ℕ) → at + 7 * (rangesListed T p + 1) ≤ length x → Room s (lowest (pointRecord s (l .points + 11 * p))) p b q m at x
       unfolding layoutOf
-      room-at x y hx hy =
-          subst (λ (z : Layout). Room s (lowest (pointRecord s (z .points + 11 * p))) p b q m x y) (sym el)
-          (part-room s p (recordsPlace s 1) (recordsPlace s 2) (recordCount s 1) b q m o (lowest (pointRecord s (recordsPlace s 0 + 11 * p))) x y (room-raw x y hx hy))
+      room-at at x h =
+          subst (λ (z : Layout). Room s (lowest (pointRecord s (z .points + 11 * p))) p b q m at x) (sym el)
+          (part-room s p (recordsPlace s 1) (recordsPlace s 2) (recordCount s 1) b q m o (lowest (pointRecord s (recordsPlace s 0 + 11 * p))) at x (room-raw at x h))
 
-      pub rows-at : (x y : List ℕ) (n k : ℕ) → Planned (sourcesAt s p (l .points + 11 * p) b q m (l .transitions) (l .«transition_count»)) x y n k
-          → RowsOf (tableOf s) p (rowsAt x y 0 n) k × (n ≤ 1025) × (k ≤ 256)
+      pub rows-at : (v x : List ℕ) (at n k : ℕ) → Planned (sourcesAt s p (l .points + 11 * p) b q m (l .transitions) (l .«transition_count»)) v x at n k
+          → RowsOf (tableOf s) p (planRowsAt x at n) k × (n ≤ 1025) × (k ≤ 256) × (take at x ≡ take at v)
       unfolding layoutOf
-      rows-at x y n k plan =
-          rows-of x y n k (subst (λ (ss : List Source). Planned ss x y n k)
+      rows-at v x at n k plan =
+          rows-of v x at n k (subst (λ (ss : List Source). Planned ss v x at n k)
           (ap (λ (z : Layout). sourcesAt s p (z .points + 11 * p) b q m (z .transitions) (z .«transition_count»)) el
           ∙ part-sources s p (recordsPlace s 1) (recordsPlace s 2) (recordCount s 1) b q m o (recordsPlace s 0 + 11 * p) (recordsPlace s 3) (recordCount s 3) ∙ sym (sources-raw s T e p inside)) plan)

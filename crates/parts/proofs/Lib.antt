@@ -11,5 +11,4 @@ pub mod Plans
 pub mod PointPlans
 pub mod RowLaws
 pub mod Accepted
-pub mod PlanRows
 pub mod Narrow

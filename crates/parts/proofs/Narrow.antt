@@ -15,8 +15,8 @@ use Rattle.values.specs.Points.{someOwn}
 use Rattle.spans.specs.Part.{rangesPast, PartOf}
 use Rattle.spans.proofs.PartLaws.{ownBins, own-part, part-some}
 use Rattle.parts.specs.Rows.{Source, binSource, ownSources, autoSource, partTotal}
-use Rattle.parts.specs.Words.{allRangeWords, allBinWords, ownListed, Fits, Room, sourcesAt}
-use Rattle.parts.proofs.Plans.{range-words, bin-words, part-count}
+use Rattle.parts.specs.Words.{allWords, ownListed, Fits, Room, sourcesAt}
+use Rattle.parts.proofs.Plans.{words-are, part-count}
 
 module _ (s : List ℕ) (p : ℕ) where
   -- ---- bins left out in front, and at the end
@@ -74,13 +74,11 @@ module _ (s : List ℕ) (p : ℕ) where
         let k = o .skipped in
         omega (arith, ap (λ (x : ℕ). ownListed s p x m) (o .place), listed-trim m (n - k) (a + 8 * k) (omega (arith, o .few)), listed-skip k (n - k) a n (omega (arith, o .few)))
 
-    pub part-room : (low : ℕ) (w v : List ℕ) → Room s low p a r n w v → Room s low p b q m w v
-    part-room low w v h =
+    pub part-room : (low at : ℕ) (w : List ℕ) → Room s low p a r n at w → Room s low p b q m at w
+    part-room low at w h =
         record {
-          some-ranges = h .some-ranges;
-          some-bins = h .some-bins;
-          ranges = omega (arith, h .ranges, ap length (range-words s low p 0 b q m ∙ ap (allRangeWords 0) (same-sources low) ∙ sym (range-words s low p 0 a r n)));
-          bins = omega (arith, h .bins, ap length (bin-words s low p 0 b q m ∙ ap (allBinWords 0) (same-sources low) ∙ sym (bin-words s low p 0 a r n)));
+          some = h .some;
+          words = omega (arith, h .words, ap length (words-are s low p 0 b q m ∙ ap (allWords 0) (same-sources low) ∙ sym (words-are s low p 0 a r n)));
           parts = omega (arith, h .parts, part-count s low p b q m ∙ ap partTotal (same-sources low) ∙ sym (part-count s low p a r n));
         }
 

@@ -31,7 +31,7 @@ use Rattle.parts.proofs.SpanLaws.{settled-fewer, settled-spans}
 
 -- ---- parts rise
 
-module _ (bin first last share : ℕ) (some : 1 ≤ share) (rest : List Row) (next : (y : ℕ) → y ≤ first + last → climbs y rest ≡ true) where
+module _ (first last share : ℕ) (some : 1 ≤ share) (rest : List Row) (next : (y : ℕ) → y ≤ first + last → climbs y rest ≡ true) where
   at : ℕ → ℕ
   at n = first + min (n / share) last
 
@@ -39,38 +39,38 @@ module _ (bin first last share : ℕ) (some : 1 ≤ share) (rest : List Row) (ne
   unfolding at
   at-mono n m h = omega (arith, div-mono n share m share some some (mul-le-mul-right share h))
 
-  range-climbs : (x before : ℕ) (rs : List Range) → x ≤ at before → climbs x (rangeRows bin first last share before rs ++ rest) ≡ true
+  range-climbs : (x before : ℕ) (rs : List Range) → x ≤ at before → climbs x (rangeRows first last share before rs ++ rest) ≡ true
   unfolding climbs rangeRows at
   range-climbs x before [] h = next x (omega arith)
   range-climbs x before (span lo hi ∷ rs) h =
-      both (leb x (at (before + (lo - lo)))) (climbs (at (before + (hi - lo))) (rangeRows bin first last share (before + (suc hi - lo)) rs ++ rest))
+      both (leb x (at (before + (lo - lo)))) (climbs (at (before + (hi - lo))) (rangeRows first last share (before + (suc hi - lo)) rs ++ rest))
       (le-leb x (at (before + (lo - lo))) (omega (arith, at-mono before (before + (lo - lo)) (omega arith))))
       (range-climbs (at (before + (hi - lo))) (before + (suc hi - lo)) rs (at-mono (before + (hi - lo)) (before + (suc hi - lo)) (omega arith)))
   range-climbs x before (pattern bits mask ∷ rs) h =
-      both (leb x (at (before + 0))) (climbs (at (before + 0)) (rangeRows bin first last share (before + 0) rs ++ rest))
+      both (leb x (at (before + 0))) (climbs (at (before + 0)) (rangeRows first last share (before + 0) rs ++ rest))
       (le-leb x (at (before + 0)) (omega (arith, at-mono before (before + 0) (omega arith))))
       (range-climbs (at (before + 0)) (before + 0) rs (at-mono (before + 0) (before + 0) (omega arith)))
 
-pub all-climb : (x bin first : ℕ) (ss : List Source) → All (λ s. 1 ≤ countOf s) ss → x ≤ first → climbs x (rowsFrom bin first ss) ≡ true
+pub all-climb : (x first : ℕ) (ss : List Source) → All (λ s. 1 ≤ countOf s) ss → x ≤ first → climbs x (rowsFrom first ss) ≡ true
 unfolding rowsFrom climbs at
-all-climb x bin first [] h k = refl
-all-climb x bin first (s ∷ ss) h k =
-    range-climbs bin first (countOf s - 1) (shareOf (s .form) (s .ranges)) (share-some (s .form) (s .ranges)) (rowsFrom (suc bin) (first + countOf s) ss)
-    (λ y e. all-climb y (suc bin) (first + countOf s) ss (h .1) (omega (arith, h .0))) x 0 (s .ranges) (omega arith)
+all-climb x first [] h k = refl
+all-climb x first (s ∷ ss) h k =
+    range-climbs first (countOf s - 1) (shareOf (s .form) (s .ranges)) (share-some (s .form) (s .ranges)) (rowsFrom (first + countOf s) ss)
+    (λ y e. all-climb y (first + countOf s) ss (h .1) (omega (arith, h .0))) x 0 (s .ranges) (omega arith)
 
 -- ---- spans of the type
 
-range-typed : (q : Point) (bin first last share before : ℕ) (rs : List Range) → All (Typed q) rs → All (λ r. Typed q (r .range)) (rangeRows bin first last share before rs)
+range-typed : (q : Point) (first last share before : ℕ) (rs : List Range) → All (Typed q) rs → All (λ r. Typed q (r .range)) (rangeRows first last share before rs)
 unfolding rangeRows
-range-typed q bin first last share before [] h = tt
-range-typed q bin first last share before (r ∷ rs) h = (h .0, range-typed q bin first last share (before + size r) rs (h .1))
+range-typed q first last share before [] h = tt
+range-typed q first last share before (r ∷ rs) h = (h .0, range-typed q first last share (before + size r) rs (h .1))
 
-pub rows-typed : (q : Point) (bin first : ℕ) (ss : List Source) → All (λ s. All (Typed q) (s .ranges)) ss → All (λ r. Typed q (r .range)) (rowsFrom bin first ss)
+pub rows-typed : (q : Point) (first : ℕ) (ss : List Source) → All (λ s. All (Typed q) (s .ranges)) ss → All (λ r. Typed q (r .range)) (rowsFrom first ss)
 unfolding rowsFrom
-rows-typed q bin first [] h = tt
-rows-typed q bin first (s ∷ ss) h =
-    all-append (λ r. Typed q (r .range)) (sourceRows bin first s) (rowsFrom (suc bin) (first + countOf s) ss)
-    (range-typed q bin first (countOf s - 1) (shareOf (s .form) (s .ranges)) 0 (s .ranges) (h .0)) (rows-typed q (suc bin) (first + countOf s) ss (h .1))
+rows-typed q first [] h = tt
+rows-typed q first (s ∷ ss) h =
+    all-append (λ r. Typed q (r .range)) (sourceRows first s) (rowsFrom (first + countOf s) ss)
+    (range-typed q first (countOf s - 1) (shareOf (s .form) (s .ranges)) 0 (s .ranges) (h .0)) (rows-typed q (first + countOf s) ss (h .1))
 
 legal-typed : (q : Point) (patterns : Bool) (rs : List Range) → All (Legal q patterns) rs → All (Typed q) rs
 legal-typed q patterns [] h = tt
@@ -114,17 +114,17 @@ module _ (t : Table) (ok : WellFormed t) (p : ℕ) where
 
 -- ---- how many
 
-length-range-rows : (bin first last share before : ℕ) (rs : List Range) → length (rangeRows bin first last share before rs) ≡ length rs
+length-range-rows : (first last share before : ℕ) (rs : List Range) → length (rangeRows first last share before rs) ≡ length rs
 unfolding rangeRows
-length-range-rows bin first last share before [] = refl
-length-range-rows bin first last share before (r ∷ rs) = ap suc (length-range-rows bin first last share (before + size r) rs)
+length-range-rows first last share before [] = refl
+length-range-rows first last share before (r ∷ rs) = ap suc (length-range-rows first last share (before + size r) rs)
 
-pub length-rows-from : (bin first : ℕ) (ss : List Source) → length (rowsFrom bin first ss) ≡ rangeTotal ss
+pub length-rows-from : (first : ℕ) (ss : List Source) → length (rowsFrom first ss) ≡ rangeTotal ss
 unfolding rowsFrom rangeTotal sumOf
-length-rows-from bin first [] = refl
-length-rows-from bin first (s ∷ ss) =
-    length-append (sourceRows bin first s) (rowsFrom (suc bin) (first + countOf s) ss)
-    ∙ ap₂ _+_ (length-range-rows bin first (countOf s - 1) (shareOf (s .form) (s .ranges)) 0 (s .ranges)) (length-rows-from (suc bin) (first + countOf s) ss)
+length-rows-from first [] = refl
+length-rows-from first (s ∷ ss) =
+    length-append (sourceRows first s) (rowsFrom (first + countOf s) ss)
+    ∙ ap₂ _+_ (length-range-rows first (countOf s - 1) (shareOf (s .form) (s .ranges)) 0 (s .ranges)) (length-rows-from (first + countOf s) ss)
 
 form-fewer : (low : ℕ) (f : Form) (rs : List Range) → length (rowRanges low f rs) ≤ length rs
 form-fewer low single rs = omega arith

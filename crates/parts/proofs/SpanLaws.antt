@@ -24,7 +24,7 @@ use Rattle.spans.proofs.CollectLaws.{words-sound, words-held, length-words}
 use Rattle.model.proofs.Lists.{head-tail}
 use Rattle.arrays.specs.Put.{put}
 use Rattle.arrays.proofs.PutLaws.{put-nil, put-next}
-use Rattle.parts.specs.Words.{rangeWords, binRangeWords}
+use Rattle.parts.specs.Words.{rowWords, binWords}
 use Rattle.parts.specs.Rows.{inserted, inOrder, settledWords, spanFrom, spanSize, settledRanges, rising}
 
 -- ---- in order
@@ -321,14 +321,14 @@ module _ (spans : List ℕ) (i : ℕ) where
     pub sound-rest : all sound (drop i spans) ≡ true → all sound (drop (i + 1) spans) ≡ true
     sound-rest e = and-right (sound (getD spans i 0)) (all sound (drop (i + 1) spans)) (sound-step e)
 
-    pub spans-turn : (c low bin before z : ℕ) (l l′ : List ℕ) → z ≡ spanSize (getD spans i 0) → c + 5 * length spans ≤ length l → l′ ≡ put (c + 5 * i) (rangeWords (spanFrom low (getD spans i 0)) before bin) l
-        → put (c + 5 * (i + 1)) (binRangeWords bin (before + z) (map (spanFrom low) (drop (i + 1) spans))) l′ ≡ put (c + 5 * i) (binRangeWords bin before (map (spanFrom low) (drop i spans))) l
-    unfolding binRangeWords
-    spans-turn c low bin before z l l′ ez room e =
-        ap₂ (λ (a b : ℕ). put a (binRangeWords bin (before + b) rs) l′) (let y : c + 5 * (i + 1) ≡ c + 5 * i + 5 = omega arith in y) (ez ∙ (let y : highEnd (getD spans i 0) + 1 - lowEnd (getD spans i 0) ≡ size q = omega arith in y))
-        ∙ ap (put (c + 5 * i + 5) (binRangeWords bin (before + size q) rs)) e
-        ∙ put-next (c + 5 * i) 5 (rangeWords q before bin) (binRangeWords bin (before + size q) rs) l refl (omega arith)
-        ∙ ap (λ (x : List ℕ). put (c + 5 * i) (binRangeWords bin before (map (spanFrom low) x)) l) (sym (head-tail spans i 0 h))
+    pub spans-turn : (c low first last share before z : ℕ) (l l′ : List ℕ) → z ≡ spanSize (getD spans i 0) → c + 7 * length spans ≤ length l → l′ ≡ put (c + 7 * i) (rowWords first last share before (spanFrom low (getD spans i 0))) l
+        → put (c + 7 * (i + 1)) (binWords first last share (before + z) (map (spanFrom low) (drop (i + 1) spans))) l′ ≡ put (c + 7 * i) (binWords first last share before (map (spanFrom low) (drop i spans))) l
+    unfolding binWords
+    spans-turn c low first last share before z l l′ ez room e =
+        ap₂ (λ (a b : ℕ). put a (binWords first last share (before + b) rs) l′) (let y : c + 7 * (i + 1) ≡ c + 7 * i + 7 = omega arith in y) (ez ∙ (let y : highEnd (getD spans i 0) + 1 - lowEnd (getD spans i 0) ≡ size q = omega arith in y))
+        ∙ ap (put (c + 7 * i + 7) (binWords first last share (before + size q) rs)) e
+        ∙ put-next (c + 7 * i) 7 (rowWords first last share before q) (binWords first last share (before + size q) rs) l refl (omega arith)
+        ∙ ap (λ (x : List ℕ). put (c + 7 * i) (binWords first last share before (map (spanFrom low) x)) l) (sym (head-tail spans i 0 h))
       where
         q : Range
         q = spanFrom low (getD spans i 0)
@@ -336,13 +336,13 @@ module _ (spans : List ℕ) (i : ℕ) where
         rs : List Range
         rs = map (spanFrom low) (drop (i + 1) spans)
 
-  pub spans-end : (c low bin before : ℕ) (l : List ℕ) → length spans ≤ i → put (c + 5 * i) (binRangeWords bin before (map (spanFrom low) (drop i spans))) l ≡ l
-  unfolding binRangeWords
-  spans-end c low bin before l h = ap (λ (x : List ℕ). put (c + 5 * i) (binRangeWords bin before (map (spanFrom low) x)) l) (drop-of-length-le spans {i = i} h) ∙ put-nil (c + 5 * i) l
+  pub spans-end : (c low first last share before : ℕ) (l : List ℕ) → length spans ≤ i → put (c + 7 * i) (binWords first last share before (map (spanFrom low) (drop i spans))) l ≡ l
+  unfolding binWords
+  spans-end c low first last share before l h = ap (λ (x : List ℕ). put (c + 7 * i) (binWords first last share before (map (spanFrom low) x)) l) (drop-of-length-le spans {i = i} h) ∙ put-nil (c + 7 * i) l
 
   pub sum-end : length spans ≤ i → sumOf spanSize (drop i spans) ≡ 0
   unfolding sumOf
   sum-end h = ap (sumOf spanSize) (drop-of-length-le spans {i = i} h)
 
-pub spans-start : (spans : List ℕ) (c low bin : ℕ) (l : List ℕ) → put (c + 5 * 0) (binRangeWords bin 0 (map (spanFrom low) (drop 0 spans))) l ≡ put c (binRangeWords bin 0 (map (spanFrom low) spans)) l
-spans-start spans c low bin l = ap (λ (a : ℕ). put a (binRangeWords bin 0 (map (spanFrom low) spans)) l) (let y : c + 5 * 0 ≡ c = omega arith in y)
+pub spans-start : (spans : List ℕ) (c low first last share : ℕ) (l : List ℕ) → put (c + 7 * 0) (binWords first last share 0 (map (spanFrom low) (drop 0 spans))) l ≡ put c (binWords first last share 0 (map (spanFrom low) spans)) l
+spans-start spans c low first last share l = ap (λ (a : ℕ). put a (binWords first last share 0 (map (spanFrom low) spans)) l) (let y : c + 7 * 0 ≡ c = omega arith in y)

@@ -1,4 +1,5 @@
 // Form 1, one bin per value: the listed spans in order, joined where they touch or overlap, and their rows.
+use crate::rows::Deal;
 use crate::rows::Ends;
 use crate::rows::put_row;
 use spans::collects::put_ranges;
@@ -16,7 +17,7 @@ ghost use Rattle.arrays.specs.Put.{put};
 ghost use Rattle.spans.specs.Spans.{sound};
 ghost use Rattle.spans.specs.Collected.{fitsFrom};
 ghost use Rattle.parts.specs.Rows.{settledWords, spanFrom, spanSize};
-ghost use Rattle.parts.specs.Words.{rangeWords, binRangeWords};
+ghost use Rattle.parts.specs.Words.{rowWords, binWords};
 
 // n spans from r on, from the start of `sorted`: in order, and joined. Answers how many they are then.
 pub fn settle_spans(
@@ -59,9 +60,9 @@ pub fn sizes_of(spans: &[u64]) -> u64
 }
 
 // The row of a span.
-fn put_span(w: &mut [u64], c: usize, span: u64, low: u64, before: u64, bin: u64)
-    requires { ⌜ (low ≤ 2147483648) × (c + 5 ≤ length (now w)) ⌝ }
-    ensures { λ _. ⌜ now (w .exit) ≡ put c (rangeWords (spanFrom low span) before bin) (now (w .entry)) ⌝ }
+fn put_span(out: &mut [u64], c: usize, span: u64, low: u64, before: u64, d: Deal)
+    requires { ⌜ (low ≤ 2147483648) × (c + 7 ≤ length (now out)) ⌝ }
+    ensures { λ _. ⌜ now (out .exit) ≡ put c (rowWords (d .first) (d .last) (d .share) before (spanFrom low span)) (now (out .entry)) ⌝ }
 {
     let lo = low_end(span);
     let hi = high_end(span);
@@ -70,21 +71,21 @@ fn put_span(w: &mut [u64], c: usize, span: u64, low: u64, before: u64, bin: u64)
         low: low + lo,
         high: low + hi,
     };
-    put_row(w, c, e, before, bin);
+    put_row(out, c, e, before, d);
 }
 
 // The rows of some spans.
-pub fn put_spans(w: &mut [u64], c: usize, spans: &[u64], low: u64, bin: u64) -> usize
-    requires { ⌜ (c + 5 * length (now spans) ≤ length (now w)) × (low ≤ 2147483648) × (all sound (now spans) ≡ true) × (sumOf spanSize (now spans) < 2 ^ 60) ⌝ }
-    ensures { λ e. ⌜ (e ≡ c + 5 * length (now (spans .entry))) × (now (w .exit) ≡ put c (binRangeWords bin 0 (map (spanFrom low) (now (spans .entry)))) (now (w .entry))) ⌝ }
+pub fn put_spans(out: &mut [u64], c: usize, spans: &[u64], low: u64, d: Deal) -> usize
+    requires { ⌜ (c + 7 * length (now spans) ≤ length (now out)) × (low ≤ 2147483648) × (all sound (now spans) ≡ true) × (sumOf spanSize (now spans) < 2 ^ 60) ⌝ }
+    ensures { λ e. ⌜ (e ≡ c + 7 * length (now (spans .entry))) × (now (out .exit) ≡ put c (binWords (d .first) (d .last) (d .share) 0 (map (spanFrom low) (now (spans .entry)))) (now (out .entry))) ⌝ }
 {
     let mut before: u64 = 0;
     let mut i = 0;
     while i < spans.len() {
         let span = spans[i];
-        put_span(w, c + 5 * i, span, low, before, bin);
+        put_span(out, c + 7 * i, span, low, before, d);
         before += span_size(span);
         i += 1;
     }
-    c + 5 * i
+    c + 7 * i
 }

@@ -2,11 +2,11 @@
 -- Assumes nothing.
 use mathlib.Core.Path.{_≡_, refl, sym, ap, ap₂, _∙_, subst}
 use mathlib.Core.Bool.{Bool, true, cond}
-use mathlib.Core.List.{List, [], _∷_, _++_, map, append-assoc}
+use mathlib.Core.List.{List, [], _∷_, _++_}
 use Prim.Native.Nat.{ℕ, suc, _+_, _-_, _*_, _/_, _%_, _^_, _≤_, _<_}
 use native.Mathlib.Omega.{arith}
 use lib.ListN.{length, getD, set, take, drop, length-take, length-drop, drop-of-length-le}
-use lib.Seq.{getD-drop, getD-take, ext-getD, take-at, take-take}
+use lib.Seq.{getD-drop, getD-take, ext-getD, take-take}
 use borrow.Author.Tests.{lt-ltb, le-ltb}
 use Rattle.model.specs.Lists.{all}
 use Rattle.model.specs.Table.{Range, span, pattern, Table}
@@ -16,9 +16,10 @@ use Rattle.model.specs.Format.{accepted, tableOf}
 use Rattle.model.specs.Raw.{rows, recordsPlace, recordCount}
 use Rattle.model.proofs.Lists.{head-tail}
 use Rattle.model.proofs.Readers.{All, all-map}
+use Rattle.model.proofs.RawLaws.{length-rows}
 use Rattle.arrays.specs.Put.{put}
 use Rattle.arrays.specs.Flat.{covers}
-use Rattle.arrays.proofs.PutLaws.{put-nil, put-cons, put-in, put-before, length-put, put-next, part-put}
+use Rattle.arrays.proofs.PutLaws.{put-nil, put-cons, put-in, put-before, length-put}
 use Rattle.ranges.specs.Taken.{excludedAt}
 use Rattle.layout.specs.Places.{layoutOf, binSectionsOf}
 use Rattle.layout.specs.declared.BinSections.{BinSections}
@@ -30,9 +31,10 @@ use Rattle.spans.proofs.Exact.{accepted-collectable}
 use Rattle.spans.proofs.Point.{spans-of, excluded-listed}
 use Rattle.spans.specs.Point.{SpansOf, freeValue, rangesListed}
 use Rattle.parts.specs.Rows.{Row}
-use Rattle.parts.specs.Words.{planRowsAt}
+use Rattle.parts.specs.Words.{planRowAt, planRowsAt}
 use Rattle.parts.specs.Point.{RowsOf}
-use Rattle.parts.proofs.PlanRows.{unbinned, unbinned-rows}
+use Rattle.parts.proofs.Back.{plan-same}
+use Rattle.parts.proofs.Plans.{take-put}
 use Rattle.pieces.specs.Pieces.{Piece, piece, pieceAt, piecesAt, PiecesOf}
 use Rattle.pieces.specs.Cuts.{allPieces, rangeWords, pieceWords, Cuttable}
 use Rattle.pieces.specs.Plan.{segment, PointPlan, pointNeed}
@@ -67,10 +69,6 @@ pieces-back qs h at l fit =
 
 -- ---- kept
 
-pub take-put : {A : Type 0} (n : ℕ) (xs l : List A) → n ≤ length l → take n (put n xs l) ≡ take n l
-unfolding put
-take-put n xs l h = rw (append-assoc (take n l) xs (drop (n + length xs) l)) (take-at (take n l) (xs ++ drop (n + length xs) l) n (simp length-take (omega arith)))
-
 same-below : (c : ℕ) (l l′ : List ℕ) → take c l′ ≡ take c l → (i : ℕ) → i < c → getD l′ i 0 ≡ getD l i 0
 same-below c l l′ e i h = sym (getD-take c l′ i 0 h) ∙ ap (λ (x : List ℕ). getD x i 0) e ∙ getD-take c l i 0 h
 
@@ -83,17 +81,17 @@ segment-same u w from to h k m e =
     getD-take (to - from) (drop from u) i 0 b ∙ getD-drop from u i 0 ∙ e (from + i) (omega arith) ∙ sym (getD-take (to - from) (drop from w) i 0 b ∙ getD-drop from w i 0)
 
 -- a write above the point's words
-pub plan-kept : (t : Table) (p : ℕ) (w w′ : List ℕ) (from mid rows to c : ℕ) → PointPlan t p w from mid rows to → to ≤ c → length w′ ≡ length w → take c w′ ≡ take c w → PointPlan t p w′ from mid rows to
-plan-kept t p w w′ from mid rows to c o h el e =
+pub plan-kept : (t : Table) (p : ℕ) (w w′ : List ℕ) (from mid cuts to c : ℕ) → PointPlan t p w from mid cuts to → to ≤ c → length w′ ≡ length w → take c w′ ≡ take c w → PointPlan t p w′ from mid cuts to
+plan-kept t p w w′ from mid cuts to c o h el e =
     record {
       order = o .order;
       order₁ = o .order₁;
       order₂ = o .order₂;
       order₃ = omega (arith, o .order₃);
-      spans = subst (SpansOf t p) (same from mid (o .order) (omega (arith, o .order₁, o .order₂))) (o .spans);
-      pieces = subst (PiecesOf t p) (pieces-same ((rows - mid) / 3) w w′ mid mid (λ i k. sym (below (mid + i) (omega (arith, o .order₁, o .order₂))))) (o .pieces);
-      rowsOf = subst (λ (x : List ℕ). RowsOf t p (planRowsAt x 0 ((to - rows) / 7)) (length (covers t p))) (same rows to (o .order₂) (omega arith)) (o .rowsOf);
+      rowsOf = subst (λ (x : List ℕ). RowsOf t p (planRowsAt x 0 ((mid - from) / 7)) (length (covers t p))) (same from mid (o .order) (omega (arith, o .order₁, o .order₂))) (o .rowsOf);
       whole = o .whole;
+      spans = subst (SpansOf t p) (same mid cuts (o .order₁) (o .order₂)) (o .spans);
+      pieces = subst (PiecesOf t p) (pieces-same ((to - cuts) / 3) w w′ cuts cuts (λ i k. sym (below (cuts + i) (omega (arith, o .order₂))))) (o .pieces);
     }
   where
     below : (i : ℕ) → i < to → getD w′ i 0 ≡ getD w i 0
@@ -102,96 +100,106 @@ plan-kept t p w w′ from mid rows to c o h el e =
     same : (x y : ℕ) → x ≤ y → y ≤ to → segment w x y ≡ segment w′ x y
     same x y j k = segment-same w w′ x y j (omega (arith, o .order₃)) (omega (arith, o .order₃)) (λ i m. sym (below i (omega arith)))
 
--- ---- written: the spans from `at` on, then the pieces, then the rows, whose words are vs
+-- ---- written: the n rows stand from `at` on; then the spans, then the pieces
 
-module _ (t : Table) (p m : ℕ) (rs : List Row) (rowsOf : RowsOf t p rs m) (few : m ≤ 256) (ws : List ℕ) (o : SpansOf t p ws) (short : length ws ≤ rangesListed t p) (low : ℕ) (el : low ≡ lowest (pointAt t p)) (at : ℕ) (l : List ℕ)
+module _ (t : Table) (p m at n : ℕ) (l : List ℕ) (rowsOf : RowsOf t p (planRowsAt l at n) m) (few : m ≤ 256) (ws : List ℕ) (o : SpansOf t p ws) (short : length ws ≤ rangesListed t p) (low : ℕ) (el : low ≡ lowest (pointAt t p))
     (room : at + pointNeed t p ≤ length l) where
   abbrev qs : List Piece
-  qs = allPieces (freeValue ws low) rs
+  qs = allPieces (freeValue ws low) (planRowsAt l at n)
 
-  pub rows-ready : highest (pointAt t p) < 2 ^ 33 → All (Cuttable low) rs
-  rows-ready h = subst (λ (x : ℕ). All (Cuttable x) rs) (sym el) (rows-cuttable t p m rs rowsOf (omega arith) h)
+  number : n ≤ rangesListed t p + 1
+  number = omega (arith, length-rows (planRowAt l) 7 at n, rowsOf .few)
 
   pieces-number : length qs ≤ rangesListed t p + 1 + length (covers t p)
-  pieces-number = omega (arith, pieces-few t p m (freeValue ws low) rs rowsOf, rowsOf .few, rowsOf .parts)
+  pieces-number = omega (arith, pieces-few t p m (freeValue ws low) (planRowsAt l at n) rowsOf, rowsOf .few, rowsOf .parts)
 
-  module _ (mid : ℕ) (l₁ : List ℕ) (em : mid ≡ at + length ws) (e₁ : l₁ ≡ put at ws l) where
+  -- there is room for the spans
+  pub spans-room : at + 7 * n + length ws ≤ length l
+  spans-room = omega (arith, number)
+
+  module _ (mid cuts : ℕ) (l₁ : List ℕ) (em : mid ≡ at + 7 * n) (ec : cuts ≡ mid + length ws) (e₁ : l₁ ≡ put mid ws l) where
     long₁ : length l₁ ≡ length l
-    long₁ = ap length e₁ ∙ length-put at ws l (omega arith)
+    long₁ = ap length e₁ ∙ length-put mid ws l (omega (arith, spans-room))
+
+    below₁ : (i : ℕ) → i < mid → getD l₁ i 0 ≡ getD l i 0
+    below₁ i h = ap (λ (x : List ℕ). getD x i 0) e₁ ∙ put-before mid ws l i 0 (omega (arith, spans-room)) h
+
+    same-rows : planRowsAt l₁ at n ≡ planRowsAt l at n
+    same-rows = plan-same n l₁ l at at (λ i h. below₁ (at + i) (omega arith))
+
+    pub rows-ready : highest (pointAt t p) < 2 ^ 33 → All (Cuttable low) (planRowsAt l₁ at n)
+    rows-ready h = subst (λ (x : ℕ). All (Cuttable x) (planRowsAt l₁ at n)) (sym el) (subst (All (Cuttable (lowest (pointAt t p)))) (sym same-rows) (rows-cuttable t p m (planRowsAt l at n) rowsOf (omega arith) h))
+
+    same-pieces : allPieces (freeValue ws low) (planRowsAt l₁ at n) ≡ qs
+    same-pieces = ap (allPieces (freeValue ws low)) same-rows
 
     -- there is room for the pieces
-    pub pieces-room : mid + 3 * length qs ≤ length l₁
-    pieces-room = omega (arith, long₁, pieces-number)
+    pub pieces-room : cuts + 3 * length (allPieces (freeValue ws low) (planRowsAt l₁ at n)) ≤ length l₁
+    pieces-room = omega (arith, ap length same-pieces, long₁, pieces-number, number)
 
-    module _ (end : ℕ) (l₂ : List ℕ) (ee : end ≡ mid + 3 * length qs) (e₂ : l₂ ≡ put mid (pieceWords qs) l₁) where
+    module _ (to : ℕ) (l₂ : List ℕ) (et : to ≡ cuts + 3 * length (allPieces (freeValue ws low) (planRowsAt l₁ at n))) (e₂ : l₂ ≡ put cuts (pieceWords (allPieces (freeValue ws low) (planRowsAt l₁ at n))) l₁) where
+      end : to ≡ cuts + 3 * length qs
+      end = et ∙ ap (λ (x : List Piece). cuts + 3 * length x) same-pieces
+
+      written : l₂ ≡ put cuts (pieceWords qs) l₁
+      written = e₂ ∙ ap (λ (x : List Piece). put cuts (pieceWords x) l₁) same-pieces
+
+      fit : cuts + 3 * length qs ≤ length l₁
+      fit = omega (arith, pieces-room, ap length same-pieces)
+
       long₂ : length l₂ ≡ length l₁
-      long₂ = ap length e₂ ∙ length-put mid (pieceWords qs) l₁ (omega (arith, pieces-room, words-length qs))
+      long₂ = ap length written ∙ length-put cuts (pieceWords qs) l₁ (omega (arith, fit, words-length qs))
 
-      first : segment l₂ at mid ≡ ws
+      below₂ : (i : ℕ) → i < cuts → getD l₂ i 0 ≡ getD l₁ i 0
+      below₂ i h = ap (λ (x : List ℕ). getD x i 0) written ∙ put-before cuts (pieceWords qs) l₁ i 0 (omega (arith, fit)) h
+
+      first : planRowsAt (segment l₂ at mid) 0 ((mid - at) / 7) ≡ planRowsAt l at n
       first =
-          let long : length (take (mid - at) (drop at l₂)) ≡ length ws = simp (length-take, length-drop) (omega (arith, long₂, pieces-room)) in
-          ext-getD 0 (segment l₂ at mid) ws long λ i h.
+          let z : (mid - at) / 7 ≡ n = omega arith in
+          ap (planRowsAt (segment l₂ at mid) 0) z
+          ∙ plan-same n (segment l₂ at mid) l 0 at λ i h.
           let b : i < mid - at = omega arith in
+          ap (λ (x : ℕ). getD (segment l₂ at mid) x 0) (let y : 0 + i ≡ i = omega arith in y)
+          ∙ getD-take (mid - at) (drop at l₂) i 0 b ∙ getD-drop at l₂ i 0 ∙ below₂ (at + i) (omega arith) ∙ below₁ (at + i) (omega arith)
+
+      second : segment l₂ mid cuts ≡ ws
+      second =
+          let long : length (take (cuts - mid) (drop mid l₂)) ≡ length ws = simp (length-take, length-drop) (omega (arith, long₂, fit)) in
+          ext-getD 0 (segment l₂ mid cuts) ws long λ i h.
+          let b : i < cuts - mid = omega arith in
           let c : i < length ws = omega arith in
-          getD-take (mid - at) (drop at l₂) i 0 b ∙ getD-drop at l₂ i 0
-          ∙ ap (λ (x : List ℕ). getD x (at + i) 0) e₂ ∙ put-before mid (pieceWords qs) l₁ (at + i) 0 (omega (arith, pieces-room)) (omega arith)
-          ∙ ap (λ (x : List ℕ). getD x (at + i) 0) e₁ ∙ put-in at ws l i 0 (omega arith) c
+          getD-take (cuts - mid) (drop mid l₂) i 0 b ∙ getD-drop mid l₂ i 0 ∙ below₂ (mid + i) (omega arith)
+          ∙ ap (λ (x : List ℕ). getD x (mid + i) 0) e₁ ∙ put-in mid ws l i 0 (omega (arith, spans-room)) c
 
       whole : PiecesOf t p qs
-      whole = subst (λ (x : ℕ). PiecesOf t p (allPieces (freeValue ws x) rs)) (sym el) (pieces-of t p m rs ws rowsOf o)
+      whole = subst (λ (x : ℕ). PiecesOf t p (allPieces (freeValue ws x) (planRowsAt l at n))) (sym el) (pieces-of t p m (planRowsAt l at n) ws rowsOf o)
 
-      second : piecesAt l₂ mid ((end - mid) / 3) ≡ qs
-      second =
-          let z : (end - mid) / 3 ≡ length qs = omega arith in
-          ap₂ (λ (x : List ℕ) (n : ℕ). piecesAt x mid n) e₂ z
-          ∙ pieces-back qs (all-map (λ q. q .part < length (covers t p)) Small (λ q h. omega (arith, h, rowsOf .parts)) qs (whole .parts)) mid l₁ pieces-room
+      third : piecesAt l₂ cuts ((to - cuts) / 3) ≡ qs
+      third =
+          let z : (to - cuts) / 3 ≡ length qs = omega (arith, end) in
+          ap₂ (λ (x : List ℕ) (k : ℕ). piecesAt x cuts k) written z
+          ∙ pieces-back qs (all-map (λ q. q .part < length (covers t p)) Small (λ q h. omega (arith, h, rowsOf .parts)) qs (whole .parts)) cuts l₁ fit
 
-      kept₂ : take at l₂ ≡ take at l
-      kept₂ =
-          ap (take at) (e₂ ∙ ap₂ (λ (a : ℕ) (x : List ℕ). put a (pieceWords qs) x) em e₁ ∙ put-next at (length ws) ws (pieceWords qs) l refl (omega arith))
-          ∙ take-put at (ws ++ pieceWords qs) l (omega arith)
+      pub planned : PointPlan t p l₂ at mid cuts to
+      planned =
+          record {
+            order = omega arith;
+            order₁ = omega arith;
+            order₂ = omega arith;
+            order₃ = omega (arith, long₂, fit, end);
+            rowsOf = subst (λ (xs : List Row). RowsOf t p xs (length (covers t p))) (sym first) (subst (RowsOf t p (planRowsAt l at n)) (rowsOf .parts) rowsOf);
+            whole = omega arith;
+            spans = subst (SpansOf t p) (sym second) o;
+            pieces = subst (PiecesOf t p) (sym third) whole;
+          }
 
-      module _ (vs : List ℕ) (n : ℕ) (long : length vs ≡ 7 * n) (number : length rs ≡ n) (back : planRowsAt vs 0 n ≡ map unbinned rs) where
-        -- there is room for the rows
-        pub rows-room : end + 7 * n ≤ length l₂
-        rows-room = omega (arith, long₁, long₂, pieces-number, rowsOf .few)
+      pub kept-below : take at l₂ ≡ take at l
+      kept-below =
+          sym (take-take at cuts l₂ (omega arith)) ∙ ap (take at) (ap (take cuts) written ∙ take-put cuts (pieceWords qs) l₁ (omega (arith, fit))) ∙ take-take at cuts l₁ (omega arith)
+          ∙ sym (take-take at mid l₁ (omega arith)) ∙ ap (take at) (ap (take mid) e₁ ∙ take-put mid ws l (omega (arith, spans-room))) ∙ take-take at mid l (omega arith)
 
-        module _ (to : ℕ) (l₃ : List ℕ) (et : to ≡ end + 7 * n) (e₃ : l₃ ≡ put end vs l₂) where
-          long₃ : length l₃ ≡ length l₂
-          long₃ = ap length e₃ ∙ length-put end vs l₂ (omega (arith, rows-room))
-
-          below : (i : ℕ) → i < end → getD l₃ i 0 ≡ getD l₂ i 0
-          below i h = ap (λ (x : List ℕ). getD x i 0) e₃ ∙ put-before end vs l₂ i 0 (omega (arith, rows-room)) h
-
-          third : segment l₃ end to ≡ vs
-          third =
-              ap₂ (λ (k : ℕ) (x : List ℕ). take k (drop end x)) (let z : to - end ≡ 7 * n = omega arith in z) e₃
-              ∙ part-put end (7 * n) vs l₂ long (omega (arith, rows-room))
-
-          rowsThere : RowsOf t p (planRowsAt (segment l₃ end to) 0 ((to - end) / 7)) (length (covers t p))
-          rowsThere =
-              subst (λ (xs : List Row). RowsOf t p xs (length (covers t p)))
-              (sym (ap₂ (λ (x : List ℕ) (k : ℕ). planRowsAt x 0 k) third (let z : (to - end) / 7 ≡ n = omega arith in z) ∙ back))
-              (unbinned-rows t p m rs rowsOf)
-
-          pub planned : PointPlan t p l₃ at mid end to
-          planned =
-              record {
-                order = omega arith;
-                order₁ = omega arith;
-                order₂ = omega arith;
-                order₃ = omega (arith, long₃, rows-room);
-                spans = subst (SpansOf t p) (sym (segment-same l₃ l₂ at mid (omega arith) (omega (arith, long₃, rows-room)) (omega (arith, rows-room)) (λ i h. below i (omega arith)) ∙ first)) o;
-                pieces = subst (PiecesOf t p) (sym (pieces-same ((end - mid) / 3) l₃ l₂ mid mid (λ i h. below (mid + i) (omega arith)) ∙ second)) whole;
-                rowsOf = rowsThere;
-                whole = omega arith;
-              }
-
-          pub kept-below : take at l₃ ≡ take at l
-          kept-below = sym (take-take at end l₃ (omega arith)) ∙ ap (take at) (ap (take end) e₃ ∙ take-put end vs l₂ (omega (arith, rows-room))) ∙ take-take at end l₂ (omega arith) ∙ kept₂
-
-          pub ends-few : to ≤ at + pointNeed t p
-          ends-few = omega (arith, pieces-number, rowsOf .few)
+      pub ends-few : to ≤ at + pointNeed t p
+      ends-few = omega (arith, end, pieces-number, number)
 
 -- ---- words copied
 
@@ -207,9 +215,9 @@ copy-end at i words l whole h e = sym (ap (λ (xs : List ℕ). put (at + i) xs l
 
 -- ---- by the layout
 
-pub counts-at : (s : List ℕ) (l : BinSections) → l ≡ binSectionsOf s → (l .«range_count» ≡ recordCount s 2) × (l .«bin_count» ≡ recordCount s 1)
+pub range-count-at : (s : List ℕ) (l : BinSections) → l ≡ binSectionsOf s → l .«range_count» ≡ recordCount s 2
 unfolding layoutOf
-counts-at s l el = (ap (λ (x : BinSections). x .«range_count») el, ap (λ (x : BinSections). x .«bin_count») el)
+range-count-at s l el = ap (λ (x : BinSections). x .«range_count») el
 
 -- a point's spans, from a part of the value bins that has all of the point's
 

@@ -84,15 +84,15 @@ high-is s point low width power el ew ea = ap₂ (λ (x y : ℕ). x + y - 1) el 
 -- ---- asked
 
 -- what `put_met` asks of a planned point
-pub plan-parts : (t : Table) (p : ℕ) (w : List ℕ) (from mid to end parts : ℕ) → PointPlan t p w from mid to end → parts ≡ length (covers t p) → All (PartBelow parts) (piecesAt (segment w mid to) 0 (length (segment w mid to) / 3))
-plan-parts t p w from mid to end parts o e = subst (All (PartBelow parts)) (sym (part-pieces w mid to (o .order₁) (omega (arith, o .order₂, o .order₃)))) (subst (λ (m : ℕ). All (PartBelow m) (piecesAt w mid ((to - mid) / 3))) (sym e) (o .pieces .parts))
+pub plan-parts : (t : Table) (p : ℕ) (w : List ℕ) (from mid cuts to parts : ℕ) → PointPlan t p w from mid cuts to → parts ≡ length (covers t p) → All (PartBelow parts) (piecesAt (segment w cuts to) 0 (length (segment w cuts to) / 3))
+plan-parts t p w from mid cuts to parts o e = subst (All (PartBelow parts)) (sym (part-pieces w cuts to (o .order₂) (o .order₃))) (subst (λ (m : ℕ). All (PartBelow m) (piecesAt w cuts ((to - cuts) / 3))) (sym e) (o .pieces .parts))
 
-pub plan-asked : (t : Table) (p : ℕ) (w : List ℕ) (from mid to end low lo hi parts : ℕ) → PointPlan t p w from mid to end → low ≡ lowest (pointAt t p) → inType (pointAt t p) lo ≡ true → inType (pointAt t p) hi ≡ true
-    → parts ≡ length (covers t p) → Asked t p (segment w from mid) (segment w mid to) low lo hi parts
-plan-asked t p w from mid to end low lo hi parts o el elo ehi ep =
+pub plan-asked : (t : Table) (p : ℕ) (w : List ℕ) (from mid cuts to low lo hi parts : ℕ) → PointPlan t p w from mid cuts to → low ≡ lowest (pointAt t p) → inType (pointAt t p) lo ≡ true → inType (pointAt t p) hi ≡ true
+    → parts ≡ length (covers t p) → Asked t p (segment w mid cuts) (segment w cuts to) low lo hi parts
+plan-asked t p w from mid cuts to low lo hi parts o el elo ehi ep =
     record {
       free = o .spans;
-      pieces = subst (PiecesOf t p) (sym (part-pieces w mid to (o .order₁) (omega (arith, o .order₂, o .order₃)))) (o .pieces);
+      pieces = subst (PiecesOf t p) (sym (part-pieces w cuts to (o .order₂) (o .order₃))) (o .pieces);
       lowest = el;
       from = elo;
       to = ehi;
@@ -131,10 +131,10 @@ low-bound q = go (q .signed)
 
 -- ---- all points
 
-pub plan-at : (t : Table) (w bounds : List ℕ) (p from mid rows to : ℕ) → ValuesPlan t w bounds → p < pointTotal t → from ≡ getD bounds (3 * p) 0 → mid ≡ getD bounds (3 * p + 1) 0 → rows ≡ getD bounds (3 * p + 2) 0 → to ≡ getD bounds (3 * p + 3) 0
-    → PointPlan t p w from mid rows to
+pub plan-at : (t : Table) (w bounds : List ℕ) (p from mid cuts to : ℕ) → ValuesPlan t w bounds → p < pointTotal t → from ≡ getD bounds (3 * p) 0 → mid ≡ getD bounds (3 * p + 1) 0 → cuts ≡ getD bounds (3 * p + 2) 0 → to ≡ getD bounds (3 * p + 3) 0
+    → PointPlan t p w from mid cuts to
 unfolding ValuesPlan
-plan-at t w bounds p from mid rows to o h ef em er et = rw (ef, em, er, et) (o p h)
+plan-at t w bounds p from mid cuts to o h ef em er et = rw (ef, em, er, et) (o p h)
 
 module _ (s : List ℕ) (ok : accepted s ≡ true) where
   pub points-read : (n : ℕ) → n ≡ u16 s 0 → n ≡ pointTotal (tableOf s)

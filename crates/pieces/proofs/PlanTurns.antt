@@ -75,41 +75,41 @@ PlannedTo t n w bounds c =
 
 -- the bounds with those of point p
 abbrev pub bounded : List ℕ → ℕ → ℕ → ℕ → ℕ → List ℕ
-bounded bounds p mid rows end = set (set (set bounds (3 * p + 1) mid) (3 * p + 2) rows) (3 * p + 3) end
+bounded bounds p mid cuts end = set (set (set bounds (3 * p + 1) mid) (3 * p + 2) cuts) (3 * p + 3) end
 
-module _ (p : ℕ) (bounds : List ℕ) (mid rows end : ℕ) (fit : 3 * p + 3 < length bounds) where
+module _ (p : ℕ) (bounds : List ℕ) (mid cuts end : ℕ) (fit : 3 * p + 3 < length bounds) where
   b₁ : List ℕ
   b₁ = set bounds (3 * p + 1) mid
 
   b₂ : List ℕ
-  b₂ = set b₁ (3 * p + 2) rows
+  b₂ = set b₁ (3 * p + 2) cuts
 
-  bound-before : (i : ℕ) → i ≤ 3 * p → getD (bounded bounds p mid rows end) i 0 ≡ getD bounds i 0
+  bound-before : (i : ℕ) → i ≤ 3 * p → getD (bounded bounds p mid cuts end) i 0 ≡ getD bounds i 0
   unfolding b₁ b₂
-  bound-before i k = getD-set-other b₂ (3 * p + 3) i end 0 (λ z. omega arith) ∙ getD-set-other b₁ (3 * p + 2) i rows 0 (λ z. omega arith) ∙ getD-set-other bounds (3 * p + 1) i mid 0 (λ z. omega arith)
+  bound-before i k = getD-set-other b₂ (3 * p + 3) i end 0 (λ z. omega arith) ∙ getD-set-other b₁ (3 * p + 2) i cuts 0 (λ z. omega arith) ∙ getD-set-other bounds (3 * p + 1) i mid 0 (λ z. omega arith)
 
-  bound-mid : getD (bounded bounds p mid rows end) (3 * p + 1) 0 ≡ mid
+  bound-mid : getD (bounded bounds p mid cuts end) (3 * p + 1) 0 ≡ mid
   unfolding b₁ b₂
-  bound-mid = getD-set-other b₂ (3 * p + 3) (3 * p + 1) end 0 (λ z. omega arith) ∙ getD-set-other b₁ (3 * p + 2) (3 * p + 1) rows 0 (λ z. omega arith) ∙ getD-set-same bounds (3 * p + 1) mid 0 (omega arith)
+  bound-mid = getD-set-other b₂ (3 * p + 3) (3 * p + 1) end 0 (λ z. omega arith) ∙ getD-set-other b₁ (3 * p + 2) (3 * p + 1) cuts 0 (λ z. omega arith) ∙ getD-set-same bounds (3 * p + 1) mid 0 (omega arith)
 
-  bound-rows : getD (bounded bounds p mid rows end) (3 * p + 2) 0 ≡ rows
+  bound-cuts : getD (bounded bounds p mid cuts end) (3 * p + 2) 0 ≡ cuts
   unfolding b₁ b₂
-  bound-rows = getD-set-other b₂ (3 * p + 3) (3 * p + 2) end 0 (λ z. omega arith) ∙ getD-set-same b₁ (3 * p + 2) rows 0 (simp length-set (omega arith))
+  bound-cuts = getD-set-other b₂ (3 * p + 3) (3 * p + 2) end 0 (λ z. omega arith) ∙ getD-set-same b₁ (3 * p + 2) cuts 0 (simp length-set (omega arith))
 
-  bound-end : getD (bounded bounds p mid rows end) (3 * p + 3) 0 ≡ end
+  bound-end : getD (bounded bounds p mid cuts end) (3 * p + 3) 0 ≡ end
   unfolding b₁ b₂
   bound-end = getD-set-same b₂ (3 * p + 3) end 0 (simp length-set (omega arith))
 
   -- where the next point's words begin
-  pub next-start : getD (bounded bounds p mid rows end) (3 * (p + 1)) 0 ≡ end
-  next-start = ap (λ (x : ℕ). getD (bounded bounds p mid rows end) x 0) (let z : 3 * (p + 1) ≡ 3 * p + 3 = omega arith in z) ∙ bound-end
+  pub next-start : getD (bounded bounds p mid cuts end) (3 * (p + 1)) 0 ≡ end
+  next-start = ap (λ (x : ℕ). getD (bounded bounds p mid cuts end) x 0) (let z : 3 * (p + 1) ≡ 3 * p + 3 = omega arith in z) ∙ bound-end
 
-  pub planned-turn : (t : Table) (w w′ : List ℕ) (at : ℕ) → PlannedTo t p w bounds at → getD bounds (3 * p) 0 ≡ at → PointPlan t p w′ at mid rows end → take at w′ ≡ take at w → length w′ ≡ length w
-      → PlannedTo t (p + 1) w′ (bounded bounds p mid rows end) end
+  pub planned-turn : (t : Table) (w w′ : List ℕ) (at : ℕ) → PlannedTo t p w bounds at → getD bounds (3 * p) 0 ≡ at → PointPlan t p w′ at mid cuts end → take at w′ ≡ take at w → length w′ ≡ length w
+      → PlannedTo t (p + 1) w′ (bounded bounds p mid cuts end) end
   planned-turn t w w′ at done start o e el q h = go (ltb q p) refl
     where
       b : List ℕ
-      b = bounded bounds p mid rows end
+      b = bounded bounds p mid cuts end
 
       go : (c : Bool) → ltb q p ≡ c → PointPlan t q w′ (getD b (3 * q) 0) (getD b (3 * q + 1) 0) (getD b (3 * q + 2) 0) (getD b (3 * q + 3) 0) × (getD b (3 * q + 3) 0 ≤ end)
       go true y =
@@ -123,7 +123,7 @@ module _ (p : ℕ) (bounds : List ℕ) (mid rows end : ℕ) (fit : 3 * p + 3 < l
           let same : q ≡ p = omega (arith, ltb-false q p y) in
           let c₀ : getD b (3 * q) 0 ≡ at = ap (λ (x : ℕ). getD b (3 * x) 0) same ∙ bound-before (3 * p) (omega arith) ∙ start in
           let c₁ : getD b (3 * q + 1) 0 ≡ mid = ap (λ (x : ℕ). getD b (3 * x + 1) 0) same ∙ bound-mid in
-          let c₂ : getD b (3 * q + 2) 0 ≡ rows = ap (λ (x : ℕ). getD b (3 * x + 2) 0) same ∙ bound-rows in
+          let c₂ : getD b (3 * q + 2) 0 ≡ cuts = ap (λ (x : ℕ). getD b (3 * x + 2) 0) same ∙ bound-cuts in
           let c₃ : getD b (3 * q + 3) 0 ≡ end = ap (λ (x : ℕ). getD b (3 * x + 3) 0) same ∙ bound-end in
           (rw (c₀, c₁, c₂, c₃, same) o, omega (arith, c₃))
 

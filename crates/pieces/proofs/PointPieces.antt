@@ -184,7 +184,7 @@ rows-cuttable t p m rs o few high = all-both (RowFits m) (λ r. Typed (pointAt t
     bounds (pattern bits mask) h = tt
 
     one : (r : Row) → RowFits m r → Typed (pointAt t p) (r .range) → Cuttable (lowest (pointAt t p)) r
-    one r fit typed = record { bin = fit .bin; before = fit .before; share = fit .share; room = omega (arith, fit .room, few); bounds = bounds (r .range) typed }
+    one r fit typed = record { before = fit .before; share = fit .share; room = omega (arith, fit .room, few); bounds = bounds (r .range) typed }
 
 -- ---- how many: parts rise along the rows, so that each row has at most one piece of a part that a row before it has
 

@@ -13,9 +13,11 @@ use Rattle.model.specs.Table.{Range, span, pattern}
 use Rattle.model.specs.Raw.{rows}
 use Rattle.model.proofs.Lists.{none-left, one-left}
 use Rattle.arrays.specs.Put.{put}
-use Rattle.arrays.proofs.Written.{unwritten, as-written}
+use Rattle.arrays.proofs.PutLaws.{put-before}
+use Rattle.arrays.proofs.Written.{Written, unwritten, as-written}
 use Rattle.parts.specs.Rows.{Row}
-use Rattle.parts.specs.Words.{rowAt, rowsAt}
+use Rattle.parts.specs.Words.{planRowAt, planRowsAt}
+use Rattle.parts.proofs.Back.{row-same}
 use Rattle.pieces.specs.Pieces.{Piece, piece}
 use Rattle.pieces.specs.Cuts.{leftOf, stepAt, cutLow, cutHigh, cutsFrom, piecesIn, rowPieces, allPieces, rangeWords, pieceWords, Bounded, Cuttable, rowOf, CutsFit}
 
@@ -36,12 +38,6 @@ words-length (q ∷ qs) = one (q .range) (words-length qs)
     one : (R : Range) → length (pieceWords qs) ≡ 3 * length qs → length (rangeWords R (q .part) ++ pieceWords qs) ≡ 3 * suc (length qs)
     one (span lo hi) e = omega arith
     one (pattern bits mask) e = omega arith
-
--- ---- a row that is read
-
-pub row-is : (w b : List ℕ) (at kind lo hi before bin first last share : ℕ) → kind ≡ getD w at 0 → lo ≡ getD w (at + 1) 0 → hi ≡ getD w (at + 2) 0 → before ≡ getD w (at + 3) 0 → bin ≡ getD w (at + 4) 0
-    → first ≡ getD b (3 * bin) 0 → last ≡ getD b (3 * bin + 1) 0 → share ≡ getD b (3 * bin + 2) 0 → rowOf kind lo hi before bin first last share ≡ rowAt w b at
-row-is w b at kind lo hi before bin first last share ek el eh eb en ef es ep = rw (ef, es, ep, ek, el, eh, eb, en)
 
 -- ---- one cut
 
@@ -89,24 +85,24 @@ module _ (f : ℕ → ℕ) (lo hi before share first top j : ℕ) where
 
 -- ---- a row
 
-module _ (f : ℕ → ℕ) (kind lo hi before bin first last share from : ℕ) (start : from ≡ min (before / share) last) where
+module _ (f : ℕ → ℕ) (kind lo hi before first last share from : ℕ) (start : from ≡ min (before / share) last) where
   from-is : from ≡ stepAt before share last 0
   from-is = start ∙ ap (λ (x : ℕ). min (x / share) last) (let z : before ≡ before + 0 = omega arith in z)
 
   pub row-span : (top : ℕ) → kind ≡ 0 → top ≡ min ((before + (hi - lo)) / share) last
-      → pieceWords (rowPieces f (rowOf kind lo hi before bin first last share)) ≡ pieceWords (cutsFrom f lo hi before share first top from (top + 1 - from))
+      → pieceWords (rowPieces f (rowOf kind lo hi before first last share)) ≡ pieceWords (cutsFrom f lo hi before share first top from (top + 1 - from))
   unfolding rowPieces
   row-span top e t =
-      ap (λ (b : Bool). pieceWords (piecesIn f (rowOf kind lo hi before bin first last share) (cond b (span lo hi) (pattern lo hi)))) (eq-eqb kind 0 e)
+      ap (λ (b : Bool). pieceWords (piecesIn f (rowOf kind lo hi before first last share) (cond b (span lo hi) (pattern lo hi)))) (eq-eqb kind 0 e)
       ∙ ap₂ (λ (x y : ℕ). pieceWords (cutsFrom f lo hi before share first x y (x + 1 - y))) (sym t) (sym from-is)
 
-  pub row-pattern : (kind ≡ 0 → ⊥) → pieceWords (rowPieces f (rowOf kind lo hi before bin first last share)) ≡ lo ∷ hi ∷ (first + from + 65536) ∷ []
+  pub row-pattern : (kind ≡ 0 → ⊥) → pieceWords (rowPieces f (rowOf kind lo hi before first last share)) ≡ lo ∷ hi ∷ (first + from + 65536) ∷ []
   unfolding rowPieces pieceWords
   row-pattern e =
-      ap (λ (b : Bool). pieceWords (piecesIn f (rowOf kind lo hi before bin first last share) (cond b (span lo hi) (pattern lo hi)))) (ne-eqb kind 0 e)
+      ap (λ (b : Bool). pieceWords (piecesIn f (rowOf kind lo hi before first last share) (cond b (span lo hi) (pattern lo hi)))) (ne-eqb kind 0 e)
       ∙ ap (λ (x : ℕ). lo ∷ hi ∷ (first + x + 65536) ∷ []) (sym from-is)
 
-  module _ (low : ℕ) (cut : Cuttable low (rowOf kind lo hi before bin first last share)) (e : kind ≡ 0) where
+  module _ (low : ℕ) (cut : Cuttable low (rowOf kind lo hi before first last share)) (e : kind ≡ 0) where
     pub row-bounds : (low ≤ lo) × (lo ≤ hi) × (hi < 2 ^ 33)
     row-bounds = subst (λ (b : Bool). Bounded low (cond b (span lo hi) (pattern lo hi))) (eq-eqb kind 0 e) (cut .bounds)
 
@@ -124,18 +120,23 @@ module _ (f : ℕ → ℕ) (kind lo hi before bin first last share from : ℕ) (
 
 -- ---- the rows
 
-module _ (f : ℕ → ℕ) (w b : List ℕ) (n i : ℕ) where
-  pub rows-turn : (r : Row) → r ≡ rowAt w b (5 * i) → i < n
-      → pieceWords (allPieces f (rowsAt w b (5 * i) (n - i))) ≡ pieceWords (rowPieces f r) ++ pieceWords (allPieces f (rowsAt w b (5 * (i + 1)) (n - (i + 1))))
+module _ (f : ℕ → ℕ) (w : List ℕ) (from n i : ℕ) where
+  pub rows-turn : (r : Row) → r ≡ planRowAt w (from + 7 * i) → i < n
+      → pieceWords (allPieces f (planRowsAt w (from + 7 * i) (n - i))) ≡ pieceWords (rowPieces f r) ++ pieceWords (allPieces f (planRowsAt w (from + 7 * (i + 1)) (n - (i + 1))))
   unfolding rows allPieces
   rows-turn r e h =
-      ap (λ (m : ℕ). pieceWords (allPieces f (rowsAt w b (5 * i) m))) (one-left n i h)
-      ∙ words-append (rowPieces f (rowAt w b (5 * i))) (allPieces f (rowsAt w b (5 * i + 5) (n - (i + 1))))
-      ∙ ap₂ (λ (x : Row) (a : ℕ). pieceWords (rowPieces f x) ++ pieceWords (allPieces f (rowsAt w b a (n - (i + 1))))) (sym e) (let z : 5 * i + 5 ≡ 5 * (i + 1) = omega arith in z)
+      ap (λ (m : ℕ). pieceWords (allPieces f (planRowsAt w (from + 7 * i) m))) (one-left n i h)
+      ∙ words-append (rowPieces f (planRowAt w (from + 7 * i))) (allPieces f (planRowsAt w (from + 7 * i + 7) (n - (i + 1))))
+      ∙ ap₂ (λ (x : Row) (a : ℕ). pieceWords (rowPieces f x) ++ pieceWords (allPieces f (planRowsAt w a (n - (i + 1))))) (sym e) (let z : from + 7 * i + 7 ≡ from + 7 * (i + 1) = omega arith in z)
 
-  pub rows-end : n ≤ i → pieceWords (allPieces f (rowsAt w b (5 * i) (n - i))) ≡ []
+  pub rows-end : n ≤ i → pieceWords (allPieces f (planRowsAt w (from + 7 * i) (n - i))) ≡ []
   unfolding rows allPieces pieceWords
-  rows-end h = ap (λ (m : ℕ). pieceWords (allPieces f (rowsAt w b (5 * i) m))) (none-left n i h)
+  rows-end h = ap (λ (m : ℕ). pieceWords (allPieces f (planRowsAt w (from + 7 * i) m))) (none-left n i h)
 
-pub rows-start : (f : ℕ → ℕ) (w b : List ℕ) (n : ℕ) → pieceWords (allPieces f (rowsAt w b (5 * 0) (n - 0))) ≡ pieceWords (allPieces f (rowsAt w b 0 n))
-rows-start f w b n = ap₂ (λ (x y : ℕ). pieceWords (allPieces f (rowsAt w b x y))) (let z : 5 * 0 ≡ 0 = omega arith in z) (let z : n - 0 ≡ n = omega arith in z)
+pub rows-start : (f : ℕ → ℕ) (w : List ℕ) (from n : ℕ) → pieceWords (allPieces f (planRowsAt w (from + 7 * 0) (n - 0))) ≡ pieceWords (allPieces f (planRowsAt w from n))
+rows-start f w from n = ap₂ (λ (x y : ℕ). pieceWords (allPieces f (planRowsAt w x y))) (let z : from + 7 * 0 ≡ from = omega arith in z) (let z : n - 0 ≡ n = omega arith in z)
+
+-- a row is the same after writes behind it
+pub row-kept : (at : ℕ) (whole l₀ : List ℕ) (c : ℕ) (l rest : List ℕ) → Written at whole l₀ c l rest → at + length whole ≤ length l₀ → at ≤ c → (from : ℕ) → from + 7 ≤ at → planRowAt l from ≡ planRowAt l₀ from
+row-kept at whole l₀ c l rest inv fit h from k = row-same l l₀ from from λ i j.
+    sym (put-before c rest l (from + i) 0 (omega (arith, inv .place, inv .kept)) (omega arith)) ∙ ap (λ (x : List ℕ). getD x (from + i) 0) (inv .same) ∙ put-before at whole l₀ (from + i) 0 (omega arith) (omega arith)

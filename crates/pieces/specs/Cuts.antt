@@ -62,15 +62,14 @@ Bounded low (span lo hi) = (low ≤ lo) × (lo ≤ hi) × (hi < 2 ^ 33)
 Bounded low (pattern bits mask) = Unit {0}
 
 pub record Cuttable (low : ℕ) (r : Row) : Type 0 where
-  pub bin : r .bin < 65536
   pub before : r .before < 2 ^ 60
   pub share : 1 ≤ r .share
   pub room : r .first + r .last < 65536
   pub bounds : Bounded low (r .range)
 
 -- a row by its words
-abbrev pub rowOf : ℕ → ℕ → ℕ → ℕ → ℕ → ℕ → ℕ → ℕ → Row
-rowOf kind a b before bin first last share = row (cond (eqb kind 0) (span a b) (pattern a b)) before bin first last share
+abbrev pub rowOf : ℕ → ℕ → ℕ → ℕ → ℕ → ℕ → ℕ → Row
+rowOf kind a b before first last share = row (cond (eqb kind 0) (span a b) (pattern a b)) before first last share
 
 -- what the code asks of a span row that has parts up to `top`
 pub record CutsFit (lo hi before share first top : ℕ) : Type 0 where

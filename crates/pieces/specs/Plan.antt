@@ -1,4 +1,4 @@
--- The plan of the values of a table: of each point its excluded spans, then its pieces, then its rows, in one array.
+-- The plan of the values of a table: of each point its rows, then its excluded spans, then its pieces, in one array.
 -- Assumes nothing.
 use Prim.Native.Nat.{ℕ, _+_, _*_, _-_, _/_, _%_, _≤_, _<_}
 use mathlib.Core.Path.{_≡_}
@@ -17,18 +17,18 @@ use Rattle.pieces.specs.Pieces.{PiecesOf, piecesAt}
 abbrev pub segment : List ℕ → ℕ → ℕ → List ℕ
 segment w from to = take (to - from) (drop from w)
 
--- point p: its spans from `from` to `mid`, its pieces, three words each, from `mid` to `rows`, its rows, seven words each, from `rows` to `to`
-pub record PointPlan (t : Table) (p : ℕ) (w : List ℕ) (from mid rows to : ℕ) : Type 0 where
+-- point p: its rows, seven words each, from `from` to `mid`, its spans from `mid` to `cuts`, its pieces, three words each, from `cuts` to `to`
+pub record PointPlan (t : Table) (p : ℕ) (w : List ℕ) (from mid cuts to : ℕ) : Type 0 where
   pub order : from ≤ mid
-  pub order₁ : mid ≤ rows
-  pub order₂ : rows ≤ to
+  pub order₁ : mid ≤ cuts
+  pub order₂ : cuts ≤ to
   pub order₃ : to ≤ length w
-  pub spans : SpansOf t p (segment w from mid)
-  pub pieces : PiecesOf t p (piecesAt w mid ((rows - mid) / 3))
-  pub rowsOf : RowsOf t p (planRowsAt (segment w rows to) 0 ((to - rows) / 7)) (length (covers t p))
-  pub whole : (to - rows) % 7 ≡ 0
+  pub rowsOf : RowsOf t p (planRowsAt (segment w from mid) 0 ((mid - from) / 7)) (length (covers t p))
+  pub whole : (mid - from) % 7 ≡ 0
+  pub spans : SpansOf t p (segment w mid cuts)
+  pub pieces : PiecesOf t p (piecesAt w cuts ((to - cuts) / 3))
 
--- all points: point p's spans are from bound 3 p on, its pieces from bound 3 p + 1 on, its rows from bound 3 p + 2 to bound 3 p + 3
+-- all points: point p's rows are from bound 3 p on, its spans from bound 3 p + 1 on, its pieces from bound 3 p + 2 to bound 3 p + 3
 unfoldable pub ValuesPlan : Table → List ℕ → List ℕ → Type 0
 ValuesPlan t w bounds = (p : ℕ) → p < pointTotal t → PointPlan t p w (getD bounds (3 * p) 0) (getD bounds (3 * p + 1) 0) (getD bounds (3 * p + 2) 0) (getD bounds (3 * p + 3) 0)
 

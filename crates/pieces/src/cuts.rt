@@ -1,5 +1,4 @@
 // The pieces of a point, cut from its rows.
-use parts::rows::word;
 use ranges::next::capped;
 use ranges::next::less;
 use spans::lookup::free_value;
@@ -12,37 +11,33 @@ ghost use Rattle.model.proofs.Readers.{All};
 ghost use Rattle.arrays.specs.Put.{put};
 ghost use Rattle.spans.specs.Spans.{apart};
 ghost use Rattle.spans.specs.Point.{freeValue};
-ghost use Rattle.parts.specs.Words.{rowAt, rowsAt};
+ghost use Rattle.parts.specs.Words.{planRowAt, planRowsAt};
 ghost use Rattle.pieces.specs.Cuts.{leftOf, cutLow, cutHigh, cutsFrom, rowPieces, allPieces, pieceWords, Cuttable, rowOf, CutsFit};
 
-// A row: kind (0: span), low end or bits, high end or mask, values listed before it in its bin, and its bin's number, first part, last part (counted from the first) and share.
+// A row: kind (0: span), low end or bits, high end or mask, values listed before it in its bin, and its bin's first part, last part (counted from the first) and share.
 pub struct Row {
     pub kind: u64,
     pub low: u64,
     pub high: u64,
     pub before: u64,
-    pub bin: u64,
     pub first: u64,
     pub last: u64,
     pub share: u64,
 }
 
 // The row at at.
-fn row_at(w: &[u64], bins: &[u64], at: usize) -> Row
-    requires { ⌜ (at < 1000000000) × (rowAt (now w) (now bins) at .bin < 65536) ⌝ }
-    ensures { λ r. ⌜ rowOf (r .kind) (r .low) (r .high) (r .before) (r .bin) (r .first) (r .last) (r .share) ≡ rowAt (now (w .entry)) (now (bins .entry)) at ⌝ }
+fn row_at(w: &[u64], at: usize) -> Row
+    requires { ⌜ at + 7 ≤ length (now w) ⌝ }
+    ensures { λ r. ⌜ rowOf (r .kind) (r .low) (r .high) (r .before) (r .first) (r .last) (r .share) ≡ planRowAt (now (w .entry)) at ⌝ }
 {
-    let bin = word(w, at + 4);
-    let b = 3 * (bin as usize);
     Row {
-        kind: word(w, at),
-        low: word(w, at + 1),
-        high: word(w, at + 2),
-        before: word(w, at + 3),
-        bin: bin,
-        first: word(bins, b),
-        last: word(bins, b + 1),
-        share: word(bins, b + 2),
+        kind: w[at],
+        low: w[at + 1],
+        high: w[at + 2],
+        before: w[at + 3],
+        first: w[at + 4],
+        last: w[at + 5],
+        share: w[at + 6],
     }
 }
 
@@ -128,9 +123,9 @@ fn put_cuts(out: &mut [u64], at: usize, spans: &[u64], low: u64, c: Cuts) -> usi
 
 // The pieces of a row.
 fn put_row(out: &mut [u64], at: usize, spans: &[u64], low: u64, r: Row) -> usize
-    requires { ⌜ (apart (now spans) ≡ true) × Cuttable low (rowOf (r .kind) (r .low) (r .high) (r .before) (r .bin) (r .first) (r .last) (r .share)) ⌝ }
-    requires { ⌜ at + length (pieceWords (rowPieces (freeValue (now spans) low) (rowOf (r .kind) (r .low) (r .high) (r .before) (r .bin) (r .first) (r .last) (r .share)))) ≤ length (now out) ⌝ }
-    ensures { λ e. ⌜ (e ≡ at + length (pieceWords (rowPieces (freeValue (now (spans .entry)) low) (rowOf (r .kind) (r .low) (r .high) (r .before) (r .bin) (r .first) (r .last) (r .share))))) × (now (out .exit) ≡ put at (pieceWords (rowPieces (freeValue (now (spans .entry)) low) (rowOf (r .kind) (r .low) (r .high) (r .before) (r .bin) (r .first) (r .last) (r .share)))) (now (out .entry))) ⌝ }
+    requires { ⌜ (apart (now spans) ≡ true) × Cuttable low (rowOf (r .kind) (r .low) (r .high) (r .before) (r .first) (r .last) (r .share)) ⌝ }
+    requires { ⌜ at + length (pieceWords (rowPieces (freeValue (now spans) low) (rowOf (r .kind) (r .low) (r .high) (r .before) (r .first) (r .last) (r .share)))) ≤ length (now out) ⌝ }
+    ensures { λ e. ⌜ (e ≡ at + length (pieceWords (rowPieces (freeValue (now (spans .entry)) low) (rowOf (r .kind) (r .low) (r .high) (r .before) (r .first) (r .last) (r .share))))) × (now (out .exit) ≡ put at (pieceWords (rowPieces (freeValue (now (spans .entry)) low) (rowOf (r .kind) (r .low) (r .high) (r .before) (r .first) (r .last) (r .share)))) (now (out .entry))) ⌝ }
 {
     let from = capped(r.before, r.share, r.last);
     if r.kind != 0 {
@@ -149,24 +144,23 @@ fn put_row(out: &mut [u64], at: usize, spans: &[u64], low: u64, r: Row) -> usize
     put_cuts(out, at, spans, low, c)
 }
 
-// The pieces of n rows. Answers where they end.
+// The pieces of the n rows that stand from `from` on, before at. Answers where they end.
 pub fn put_pieces(
     out: &mut [u64],
     at: usize,
-    w: &[u64],
-    bins: &[u64],
+    from: usize,
     n: usize,
     spans: &[u64],
     low: u64,
 ) -> usize
-    requires { ⌜ (n < 65536) × (apart (now spans) ≡ true) × All (Cuttable low) (rowsAt (now w) (now bins) 0 n) ⌝ }
-    requires { ⌜ at + 3 * length (allPieces (freeValue (now spans) low) (rowsAt (now w) (now bins) 0 n)) ≤ length (now out) ⌝ }
-    ensures { λ r. ⌜ (r ≡ at + 3 * length (allPieces (freeValue (now (spans .entry)) low) (rowsAt (now (w .entry)) (now (bins .entry)) 0 n))) × (now (out .exit) ≡ put at (pieceWords (allPieces (freeValue (now (spans .entry)) low) (rowsAt (now (w .entry)) (now (bins .entry)) 0 n))) (now (out .entry))) ⌝ }
+    requires { ⌜ (n < 65536) × (from + 7 * n ≤ at) × (apart (now spans) ≡ true) × All (Cuttable low) (planRowsAt (now out) from n) ⌝ }
+    requires { ⌜ at + 3 * length (allPieces (freeValue (now spans) low) (planRowsAt (now out) from n)) ≤ length (now out) ⌝ }
+    ensures { λ r. ⌜ (r ≡ at + 3 * length (allPieces (freeValue (now (spans .entry)) low) (planRowsAt (now (out .entry)) from n))) × (now (out .exit) ≡ put at (pieceWords (allPieces (freeValue (now (spans .entry)) low) (planRowsAt (now (out .entry)) from n))) (now (out .entry))) ⌝ }
 {
     let mut e = at;
     let mut i = 0;
     while i < n {
-        let r = row_at(w, bins, 5 * i);
+        let r = row_at(out, from + 7 * i);
         e = put_row(out, e, spans, low, r);
         i += 1;
     }

@@ -3,4 +3,3 @@ pub mod build;
 pub mod cuts;
 pub mod met;
 pub mod plan;
-pub mod rows;

@@ -52,9 +52,9 @@ pub fn put_meets(out: &mut [u8], at: usize, t: &[u8], plan: &[u64], bounds: &[u1
     ensures { λ _. ⌜ now (out .exit) ≡ put at (metBits (tableOf (now (t .entry))) (q .point) (q .lo) (q .hi)) (now (out .entry)) ⌝ }
 {
     let p = q.point;
-    let from = element(bounds, 3 * p) as usize;
-    let mid = element(bounds, 3 * p + 1) as usize;
-    let to = element(bounds, 3 * p + 2) as usize;
+    let from = element(bounds, 3 * p + 1) as usize;
+    let mid = element(bounds, 3 * p + 2) as usize;
+    let to = element(bounds, 3 * p + 3) as usize;
     let l = limits_of(t, p);
     let ask = Ask {
         low: l.low,

@@ -1,3 +1,4 @@
+use mathlib.Core.Path.{refl}
 use Prim.Native.Nat.{_*_}
 use native.Mathlib.Omega.{arith}
 use Rattle.model.specs.Format.{tableOf}
@@ -32,7 +33,7 @@ mul-put-found-3 c =
     let a = c .before .before .before .before .before .before .before .args in
     let q = c .before .before .before .before .before .before .before .pre in
     let b = c .before .bounds-of .ensures in
-    let o = plan-at (tableOf (a .t .now)) (a .plan .now) (a .lists .now) (a .r .point) _ _ _ _ (q .1 .0) (q .0 .1) (b .0) (b .1) (b .2) (b .3) in
+    let o = plan-at (tableOf (a .t .now)) (a .plan .now) (a .lists .now) (a .r .point) _ _ _ _ (q .1 .0) (q .0 .1) (b .0) (b .1) (b .2) refl in
     omega (arith, o .order, o .order₁, o .order₂, o .order₃)
 
 sub-put-found-2 : tie.Need-sub-put-found-2
@@ -40,7 +41,7 @@ sub-put-found-2 c =
     let a = c .before .before .before .before .before .before .before .args in
     let q = c .before .before .before .before .before .before .before .pre in
     let b = c .before .bounds-of .ensures in
-    let o = plan-at (tableOf (a .t .now)) (a .plan .now) (a .lists .now) (a .r .point) _ _ _ _ (q .1 .0) (q .0 .1) (b .0) (b .1) (b .2) (b .3) in
+    let o = plan-at (tableOf (a .t .now)) (a .plan .now) (a .lists .now) (a .r .point) _ _ _ _ (q .1 .0) (q .0 .1) (b .0) (b .1) (b .2) refl in
     omega (arith, o .order, o .order₁, o .order₂, o .order₃)
 
 part-put-found-start-2 : tie.Need-part-put-found-start-2
@@ -48,7 +49,7 @@ part-put-found-start-2 c =
     let a = c .before .before .before .before .before .before .before .args in
     let q = c .before .before .before .before .before .before .before .pre in
     let b = c .before .bounds-of .ensures in
-    let o = plan-at (tableOf (a .t .now)) (a .plan .now) (a .lists .now) (a .r .point) _ _ _ _ (q .1 .0) (q .0 .1) (b .0) (b .1) (b .2) (b .3) in
+    let o = plan-at (tableOf (a .t .now)) (a .plan .now) (a .lists .now) (a .r .point) _ _ _ _ (q .1 .0) (q .0 .1) (b .0) (b .1) (b .2) refl in
     omega (arith, o .order, o .order₁, o .order₂, o .order₃)
 
 part-put-found-end-2 : tie.Need-part-put-found-end-2
@@ -56,7 +57,7 @@ part-put-found-end-2 c =
     let a = c .before .before .before .before .before .before .before .args in
     let q = c .before .before .before .before .before .before .before .pre in
     let b = c .before .bounds-of .ensures in
-    let o = plan-at (tableOf (a .t .now)) (a .plan .now) (a .lists .now) (a .r .point) _ _ _ _ (q .1 .0) (q .0 .1) (b .0) (b .1) (b .2) (b .3) in
+    let o = plan-at (tableOf (a .t .now)) (a .plan .now) (a .lists .now) (a .r .point) _ _ _ _ (q .1 .0) (q .0 .1) (b .0) (b .1) (b .2) refl in
     omega (arith, o .order, o .order₁, o .order₂, o .order₃)
 
 mul-put-found-4 : tie.Need-mul-put-found-4
@@ -64,7 +65,7 @@ mul-put-found-4 c =
     let a = c .before .before .before .before .before .before .before .before .args in
     let q = c .before .before .before .before .before .before .before .before .pre in
     let b = c .before .before .bounds-of .ensures in
-    let o = plan-at (tableOf (a .t .now)) (a .plan .now) (a .lists .now) (a .r .point) _ _ _ _ (q .1 .0) (q .0 .1) (b .0) (b .1) (b .2) (b .3) in
+    let o = plan-at (tableOf (a .t .now)) (a .plan .now) (a .lists .now) (a .r .point) _ _ _ _ (q .1 .0) (q .0 .1) (b .0) (b .1) (b .2) refl in
     omega (arith, o .order, o .order₁, o .order₂, o .order₃)
 
 sub-put-found-3 : tie.Need-sub-put-found-3
@@ -72,7 +73,7 @@ sub-put-found-3 c =
     let a = c .before .before .before .before .before .before .before .before .args in
     let q = c .before .before .before .before .before .before .before .before .pre in
     let b = c .before .before .bounds-of .ensures in
-    let o = plan-at (tableOf (a .t .now)) (a .plan .now) (a .lists .now) (a .r .point) _ _ _ _ (q .1 .0) (q .0 .1) (b .0) (b .1) (b .2) (b .3) in
+    let o = plan-at (tableOf (a .t .now)) (a .plan .now) (a .lists .now) (a .r .point) _ _ _ _ (q .1 .0) (q .0 .1) (b .0) (b .1) (b .2) refl in
     omega (arith, o .order, o .order₁, o .order₂, o .order₃)
 
 part-put-found-start-3 : tie.Need-part-put-found-start-3
@@ -80,7 +81,7 @@ part-put-found-start-3 c =
     let a = c .before .before .before .before .before .before .before .before .args in
     let q = c .before .before .before .before .before .before .before .before .pre in
     let b = c .before .before .bounds-of .ensures in
-    let o = plan-at (tableOf (a .t .now)) (a .plan .now) (a .lists .now) (a .r .point) _ _ _ _ (q .1 .0) (q .0 .1) (b .0) (b .1) (b .2) (b .3) in
+    let o = plan-at (tableOf (a .t .now)) (a .plan .now) (a .lists .now) (a .r .point) _ _ _ _ (q .1 .0) (q .0 .1) (b .0) (b .1) (b .2) refl in
     omega (arith, o .order, o .order₁, o .order₂, o .order₃)
 
 part-put-found-end-3 : tie.Need-part-put-found-end-3
@@ -88,7 +89,7 @@ part-put-found-end-3 c =
     let a = c .before .before .before .before .before .before .before .before .args in
     let q = c .before .before .before .before .before .before .before .before .pre in
     let b = c .before .before .bounds-of .ensures in
-    let o = plan-at (tableOf (a .t .now)) (a .plan .now) (a .lists .now) (a .r .point) _ _ _ _ (q .1 .0) (q .0 .1) (b .0) (b .1) (b .2) (b .3) in
+    let o = plan-at (tableOf (a .t .now)) (a .plan .now) (a .lists .now) (a .r .point) _ _ _ _ (q .1 .0) (q .0 .1) (b .0) (b .1) (b .2) refl in
     omega (arith, o .order, o .order₁, o .order₂, o .order₃)
 
 mul-put-found-5 : tie.Need-mul-put-found-5
@@ -114,7 +115,7 @@ put-found-requires c κs =
     let a = c .before .before .before .before .before .before .before .before .before .before .args in
     let q = c .before .before .before .before .before .before .before .before .before .before .pre in
     let b = c .before .before .before .before .bounds-of .ensures in
-    let o = plan-at (tableOf (a .t .now)) (a .plan .now) (a .lists .now) (a .r .point) _ _ _ _ (q .1 .0) (q .0 .1) (b .0) (b .1) (b .2) (b .3) in
+    let o = plan-at (tableOf (a .t .now)) (a .plan .now) (a .lists .now) (a .r .point) _ _ _ _ (q .1 .0) (q .0 .1) (b .0) (b .1) (b .2) refl in
     let s = a .t .now in
     ((q .0 .0, q .0 .1, q .0 .2, q .0 .3, q .0 .4, q .0 .5, row-room (a .r .point) _ (a .found .now) (q .0 .1) (q .1 .3)), (rows-of (tableOf s) (a .r .point) (a .plan .now) _ _ _ _ o, o .spans, origins-at (tableOf s) (a .r .point) (a .lists .now) (q .0 .1) (few-covers s (q .0 .0) (a .r .point) (q .0 .1)) (q .1 .2) (q .1 .1)))
 

@@ -30,7 +30,7 @@ returns c =
     let lo = c .before .before .before .before .before .low-end .ensures .0 in
     let hi = c .before .before .before .before .high-end .ensures .0 in
     c .before .before .put-row .ensures
-    ∙ ap₂ (λ (x y : ℕ). put (a .c) (0 ∷ (a .low + x) ∷ (a .low + y) ∷ a .before ∷ a .bin ∷ []) (a .w .now)) lo hi
+    ∙ ap₂ (λ (x y : ℕ). put (a .c) (0 ∷ (a .low + x) ∷ (a .low + y) ∷ a .before ∷ a .d .first ∷ a .d .last ∷ a .d .share ∷ []) (a .out .now)) lo hi
 
 pub put-span-spec : {M : Type 1} → statement M
 put-span-spec =

@@ -9,23 +9,23 @@ use Rattle.model.specs.Lists.{all, sumOf}
 use Rattle.arrays.specs.Put.{put}
 use Rattle.spans.specs.Spans.{sound}
 use Rattle.parts.specs.Rows.{spanFrom, spanSize}
-use Rattle.parts.specs.Words.{binRangeWords}
+use Rattle.parts.specs.Words.{binWords}
 use Rattle.parts.proofs.SpanLaws.{sum-turn, sound-first, sound-rest, spans-start, spans-turn, spans-end}
 use Rattle.parts.proofs.settled.put_spans.Statement.{statement}
 use Rattle.parts.proofs.settled.put_spans.Tie as tie
 
 abbrev Inv-loop : tie.InvT-loop
-Inv-loop w₀ c spans low bin before₀ i₀ w before i =
-    (i ≤ length spans) × (length w ≡ length w₀) × (before + sumOf spanSize (drop i spans) ≡ sumOf spanSize spans) × (all sound (drop i spans) ≡ true)
-    × (put (c + 5 * i) (binRangeWords bin before (map (spanFrom low) (drop i spans))) w ≡ put c (binRangeWords bin 0 (map (spanFrom low) spans)) w₀)
+Inv-loop out₀ c spans low d before₀ i₀ out before i =
+    (i ≤ length spans) × (length out ≡ length out₀) × (before + sumOf spanSize (drop i spans) ≡ sumOf spanSize spans) × (all sound (drop i spans) ≡ true)
+    × (put (c + 7 * i) (binWords (d .first) (d .last) (d .share) before (map (spanFrom low) (drop i spans))) out ≡ put c (binWords (d .first) (d .last) (d .share) 0 (map (spanFrom low) spans)) out₀)
 
 abbrev μ-loop : tie.MeasureT-loop
-μ-loop w₀ c spans low bin before₀ i₀ w before i = length spans - i
+μ-loop out₀ c spans low d before₀ i₀ out before i = length spans - i
 
 loop-holds : tie.Need-loop-holds Inv-loop μ-loop
 loop-holds c =
     let a = c .before .before .args in
-    (omega arith, refl, omega arith, c .before .before .pre .2, spans-start (a .spans .now) (a .c) (a .low) (a .bin) (a .w .now))
+    (omega arith, refl, omega arith, c .before .before .pre .2, spans-start (a .spans .now) (a .c) (a .low) (a .d .first) (a .d .last) (a .d .share) (a .out .now))
 
 mul-span : tie.Need-mul-span Inv-loop μ-loop
 mul-span c = search needs
@@ -69,7 +69,7 @@ loop-again c =
       search needs,
       omega (arith, sum-turn (a .spans .now) (l .i) (omega arith) (z .result) (z .ensures), l .inv .2),
       sound-rest (a .spans .now) (l .i) (omega arith) (l .inv .3),
-      spans-turn (a .spans .now) (l .i) (omega arith) (a .c) (a .low) (a .bin) (l .before) (z .result) (l .w) _ (z .ensures) (omega arith) (c .before .before .before .put-span .ensures) ∙ l .inv .4,
+      spans-turn (a .spans .now) (l .i) (omega arith) (a .c) (a .low) (a .d .first) (a .d .last) (a .d .share) (l .before) (z .result) (l .out) _ (z .ensures) (omega arith) (c .before .before .before .put-span .ensures) ∙ l .inv .4,
     )
 
 mul-result : tie.Need-mul-result Inv-loop μ-loop
@@ -85,7 +85,7 @@ returns : tie.Need-returns Inv-loop μ-loop
 returns c =
     let a = c .before .before .before .before .args in
     let l = c .before .loop in
-    (omega arith, sym (spans-end (a .spans .now) (l .i) (a .c) (a .low) (a .bin) (l .before) (l .w) (omega arith)) ∙ l .inv .4)
+    (omega arith, sym (spans-end (a .spans .now) (l .i) (a .c) (a .low) (a .d .first) (a .d .last) (a .d .share) (l .before) (l .out) (omega arith)) ∙ l .inv .4)
 
 pub put-spans-spec : {M : Type 1} → statement M
 put-spans-spec =

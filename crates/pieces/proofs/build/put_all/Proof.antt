@@ -4,7 +4,7 @@ use native.Mathlib.Omega.{arith}
 use lib.ListN.{length, length-set, getD}
 use Rattle.model.specs.Format.{tableOf}
 use Rattle.model.specs.Register.{pointTotal}
-use Rattle.spans.proofs.Point.{bins-many, point-listed}
+use Rattle.spans.proofs.Point.{point-listed}
 use Rattle.pieces.specs.Plan.{planNeed}
 use Rattle.pieces.proofs.PlanLaws.{points-read}
 use Rattle.pieces.proofs.PlanTurns.{needFrom, need-start, need-next, turn-room, PlannedTo, planned-turn, first-start, next-start, all-planned}
@@ -12,12 +12,12 @@ use Rattle.pieces.proofs.build.put_all.Statement.{statement}
 use Rattle.pieces.proofs.build.put_all.Tie as tie
 
 abbrev Inv-loop : tie.InvT-loop
-Inv-loop plan₀ bounds₀ w₀ bins₀ room₀ sorted₀ t n at₀ p₀ plan bounds w bins room sorted at p =
-    (p ≤ n) × (n ≡ pointTotal (tableOf t)) × (length plan ≡ length plan₀) × (length bounds ≡ length bounds₀) × (length w ≡ length w₀) × (length bins ≡ length bins₀) × (length room ≡ length room₀) × (length sorted ≡ length sorted₀)
+Inv-loop plan₀ bounds₀ room₀ sorted₀ t n at₀ p₀ plan bounds room sorted at p =
+    (p ≤ n) × (n ≡ pointTotal (tableOf t)) × (length plan ≡ length plan₀) × (length bounds ≡ length bounds₀) × (length room ≡ length room₀) × (length sorted ≡ length sorted₀)
     × (at + needFrom (tableOf t) p (n - p) ≤ planNeed (tableOf t)) × (getD bounds (3 * p) 0 ≡ at) × PlannedTo (tableOf t) p plan bounds at
 
 abbrev μ-loop : tie.MeasureT-loop
-μ-loop plan₀ bounds₀ w₀ bins₀ room₀ sorted₀ t n at₀ p₀ plan bounds w bins room sorted at p = n - p
+μ-loop plan₀ bounds₀ room₀ sorted₀ t n at₀ p₀ plan bounds room sorted at p = n - p
 
 read2-requires : tie.Need-read2-requires Inv-loop μ-loop
 read2-requires c κs = omega arith
@@ -30,29 +30,27 @@ slice-write-bounds c = omega arith
 
 loop-holds : tie.Need-loop-holds Inv-loop μ-loop
 loop-holds c =
-    let a = c .before .before .before .before .before .before .before .before .args in
-    let q = c .before .before .before .before .before .before .before .before .pre in
+    let a = c .before .before .before .before .before .before .args in
+    let q = c .before .before .before .before .before .before .pre in
     let e = points-read (a .t .now) (q .0 .0) _ (c .read2 .ensures) in
-    (omega arith, e, refl, simp length-set refl, refl, refl, refl, refl, need-start (tableOf (a .t .now)) _ e, first-start (a .bounds .now) (q .0 .2), (λ x h. absurd (omega arith)))
+    (omega arith, e, refl, simp length-set refl, refl, refl, need-start (tableOf (a .t .now)) _ e, first-start (a .bounds .now) (q .0 .2), (λ x h. absurd (omega arith)))
 
 put-point-requires : tie.Need-put-point-requires Inv-loop μ-loop
 put-point-requires c κs =
-    let a = c .before .before .before .before .before .before .before .before .before .before .before .before .before .before .before .args in
-    let q = c .before .before .before .before .before .before .before .before .before .before .before .before .before .before .before .pre in
-    let l = c .before .before .before .before .before .before .loop in
-    let h = turn-room (a .t .now) (q .0 .0) _ (l .p) (l .at) (l .inv .1) (omega arith) (l .inv .8) in
-    let s = a .t .now in
-    let r = point-listed s (q .0 .0) (l .p) in
-    let b = bins-many s (q .0 .0) in
-    ((q .0 .0, h .0, omega (arith, h .2, l .inv .2, q .0 .1)), (omega (arith, r, l .inv .4, q .1 .0), omega (arith, b, l .inv .5, q .1 .1), omega (arith, r, l .inv .6, q .1 .2), omega (arith, l .inv .6, l .inv .7, q .1 .3)))
+    let a = c .before .before .before .before .before .before .before .before .before .before .before .args in
+    let q = c .before .before .before .before .before .before .before .before .before .before .before .pre in
+    let l = c .before .before .before .before .loop in
+    let h = turn-room (a .t .now) (q .0 .0) _ (l .p) (l .at) (l .inv .1) (omega arith) (l .inv .6) in
+    let r = point-listed (a .t .now) (q .0 .0) (l .p) in
+    ((q .0 .0, h .0, omega (arith, h .2, l .inv .2, q .0 .1)), (omega (arith, r, l .inv .4, q .1 .0), omega (arith, l .inv .4, l .inv .5, q .1 .1)))
 
 cast-bounds : tie.Need-cast-bounds Inv-loop μ-loop
 cast-bounds c =
-    let a = c .before .before .before .before .before .before .before .before .before .before .before .before .before .before .before .before .before .before .before .before .before .before .before .before .before .before .before .args in
-    let q = c .before .before .before .before .before .before .before .before .before .before .before .before .before .before .before .before .before .before .before .before .before .before .before .before .before .before .before .pre in
-    let l = c .before .before .before .before .before .before .before .before .before .before .before .before .before .before .before .before .before .before .loop in
-    let h = turn-room (a .t .now) (q .0 .0) _ (l .p) (l .at) (l .inv .1) (omega arith) (l .inv .8) in
-    let k = c .before .before .before .before .before .before .before .before .before .before .before .put-point .ensures in
+    let a = c .before .before .before .before .before .before .before .before .before .before .before .before .before .before .before .before .before .before .before .args in
+    let q = c .before .before .before .before .before .before .before .before .before .before .before .before .before .before .before .before .before .before .before .pre in
+    let l = c .before .before .before .before .before .before .before .before .before .before .before .before .loop in
+    let h = turn-room (a .t .now) (q .0 .0) _ (l .p) (l .at) (l .inv .1) (omega arith) (l .inv .6) in
+    let k = c .before .before .before .before .before .before .before .put-point .ensures in
     omega (arith, k .2, k .0 .order₁, k .0 .order₂, h .2, h .3)
 
 mul-bounds : tie.Need-mul-bounds Inv-loop μ-loop
@@ -66,20 +64,20 @@ mul-bounds-2 c = omega arith
 
 slice-write-bounds-2 : tie.Need-slice-write-bounds-2 Inv-loop μ-loop
 slice-write-bounds-2 c =
-    let a = c .before .before .before .before .before .before .before .before .before .before .before .before .before .before .before .before .before .before .before .before .before .before .before .before .before .before .before .args in
-    let q = c .before .before .before .before .before .before .before .before .before .before .before .before .before .before .before .before .before .before .before .before .before .before .before .before .before .before .before .pre in
-    let l = c .before .before .before .before .before .before .before .before .before .before .before .before .before .before .before .before .before .before .loop in
-    let h = turn-room (a .t .now) (q .0 .0) _ (l .p) (l .at) (l .inv .1) (omega arith) (l .inv .8) in
+    let a = c .before .before .before .before .before .before .before .before .before .before .before .before .before .before .before .before .before .before .before .args in
+    let q = c .before .before .before .before .before .before .before .before .before .before .before .before .before .before .before .before .before .before .before .pre in
+    let l = c .before .before .before .before .before .before .before .before .before .before .before .before .loop in
+    let h = turn-room (a .t .now) (q .0 .0) _ (l .p) (l .at) (l .inv .1) (omega arith) (l .inv .6) in
     let kept : length (l .bounds) ≡ length (a .bounds .now) = l .inv .3 ∙ simp length-set in
     omega (arith, h .1, kept, q .0 .2)
 
 cast-bounds-2 : tie.Need-cast-bounds-2 Inv-loop μ-loop
 cast-bounds-2 c =
-    let a = c .before .before .before .before .before .before .before .before .before .before .before .before .before .before .before .before .before .before .before .before .before .before .before .before .before .before .before .before .args in
-    let q = c .before .before .before .before .before .before .before .before .before .before .before .before .before .before .before .before .before .before .before .before .before .before .before .before .before .before .before .before .pre in
-    let l = c .before .before .before .before .before .before .before .before .before .before .before .before .before .before .before .before .before .before .before .loop in
-    let h = turn-room (a .t .now) (q .0 .0) _ (l .p) (l .at) (l .inv .1) (omega arith) (l .inv .8) in
-    let k = c .before .before .before .before .before .before .before .before .before .before .before .before .put-point .ensures in
+    let a = c .before .before .before .before .before .before .before .before .before .before .before .before .before .before .before .before .before .before .before .before .args in
+    let q = c .before .before .before .before .before .before .before .before .before .before .before .before .before .before .before .before .before .before .before .before .pre in
+    let l = c .before .before .before .before .before .before .before .before .before .before .before .before .before .loop in
+    let h = turn-room (a .t .now) (q .0 .0) _ (l .p) (l .at) (l .inv .1) (omega arith) (l .inv .6) in
+    let k = c .before .before .before .before .before .before .before .before .put-point .ensures in
     omega (arith, k .2, k .0 .order₂, h .2, h .3)
 
 mul-bounds-3 : tie.Need-mul-bounds-3 Inv-loop μ-loop
@@ -93,20 +91,20 @@ mul-bounds-4 c = omega arith
 
 slice-write-bounds-3 : tie.Need-slice-write-bounds-3 Inv-loop μ-loop
 slice-write-bounds-3 c =
-    let a = c .before .before .before .before .before .before .before .before .before .before .before .before .before .before .before .before .before .before .before .before .before .before .before .before .before .before .before .before .args in
-    let q = c .before .before .before .before .before .before .before .before .before .before .before .before .before .before .before .before .before .before .before .before .before .before .before .before .before .before .before .before .pre in
-    let l = c .before .before .before .before .before .before .before .before .before .before .before .before .before .before .before .before .before .before .before .loop in
-    let h = turn-room (a .t .now) (q .0 .0) _ (l .p) (l .at) (l .inv .1) (omega arith) (l .inv .8) in
+    let a = c .before .before .before .before .before .before .before .before .before .before .before .before .before .before .before .before .before .before .before .before .args in
+    let q = c .before .before .before .before .before .before .before .before .before .before .before .before .before .before .before .before .before .before .before .before .pre in
+    let l = c .before .before .before .before .before .before .before .before .before .before .before .before .before .loop in
+    let h = turn-room (a .t .now) (q .0 .0) _ (l .p) (l .at) (l .inv .1) (omega arith) (l .inv .6) in
     let kept : length (l .bounds) ≡ length (a .bounds .now) = l .inv .3 ∙ simp length-set in
     simp length-set (omega (arith, h .1, kept, q .0 .2))
 
 cast-bounds-3 : tie.Need-cast-bounds-3 Inv-loop μ-loop
 cast-bounds-3 c =
-    let a = c .before .before .before .before .before .before .before .before .before .before .before .before .before .before .before .before .before .before .before .before .before .before .before .before .before .before .before .before .before .args in
-    let q = c .before .before .before .before .before .before .before .before .before .before .before .before .before .before .before .before .before .before .before .before .before .before .before .before .before .before .before .before .before .pre in
-    let l = c .before .before .before .before .before .before .before .before .before .before .before .before .before .before .before .before .before .before .before .before .loop in
-    let h = turn-room (a .t .now) (q .0 .0) _ (l .p) (l .at) (l .inv .1) (omega arith) (l .inv .8) in
-    let k = c .before .before .before .before .before .before .before .before .before .before .before .before .before .put-point .ensures in
+    let a = c .before .before .before .before .before .before .before .before .before .before .before .before .before .before .before .before .before .before .before .before .before .args in
+    let q = c .before .before .before .before .before .before .before .before .before .before .before .before .before .before .before .before .before .before .before .before .before .pre in
+    let l = c .before .before .before .before .before .before .before .before .before .before .before .before .before .before .loop in
+    let h = turn-room (a .t .now) (q .0 .0) _ (l .p) (l .at) (l .inv .1) (omega arith) (l .inv .6) in
+    let k = c .before .before .before .before .before .before .before .before .before .put-point .ensures in
     omega (arith, k .2, h .2, h .3)
 
 mul-bounds-5 : tie.Need-mul-bounds-5 Inv-loop μ-loop
@@ -120,10 +118,10 @@ mul-bounds-6 c = omega arith
 
 slice-write-bounds-4 : tie.Need-slice-write-bounds-4 Inv-loop μ-loop
 slice-write-bounds-4 c =
-    let a = c .before .before .before .before .before .before .before .before .before .before .before .before .before .before .before .before .before .before .before .before .before .before .before .before .before .before .before .before .before .args in
-    let q = c .before .before .before .before .before .before .before .before .before .before .before .before .before .before .before .before .before .before .before .before .before .before .before .before .before .before .before .before .before .pre in
-    let l = c .before .before .before .before .before .before .before .before .before .before .before .before .before .before .before .before .before .before .before .before .loop in
-    let h = turn-room (a .t .now) (q .0 .0) _ (l .p) (l .at) (l .inv .1) (omega arith) (l .inv .8) in
+    let a = c .before .before .before .before .before .before .before .before .before .before .before .before .before .before .before .before .before .before .before .before .before .args in
+    let q = c .before .before .before .before .before .before .before .before .before .before .before .before .before .before .before .before .before .before .before .before .before .pre in
+    let l = c .before .before .before .before .before .before .before .before .before .before .before .before .before .before .loop in
+    let h = turn-room (a .t .now) (q .0 .0) _ (l .p) (l .at) (l .inv .1) (omega arith) (l .inv .6) in
     let kept : length (l .bounds) ≡ length (a .bounds .now) = l .inv .3 ∙ simp length-set in
     simp length-set (omega (arith, h .1, kept, q .0 .2))
 
@@ -135,13 +133,13 @@ loop-less c = omega arith
 
 loop-again : tie.Need-loop-again Inv-loop μ-loop
 loop-again c =
-    let a = c .before .before .before .before .before .before .before .before .before .before .before .before .before .before .before .before .before .before .before .before .before .before .before .before .before .before .before .before .before .args in
-    let q = c .before .before .before .before .before .before .before .before .before .before .before .before .before .before .before .before .before .before .before .before .before .before .before .before .before .before .before .before .before .pre in
-    let l = c .before .before .before .before .before .before .before .before .before .before .before .before .before .before .before .before .before .before .before .before .loop in
-    let h = turn-room (a .t .now) (q .0 .0) _ (l .p) (l .at) (l .inv .1) (omega arith) (l .inv .8) in
+    let a = c .before .before .before .before .before .before .before .before .before .before .before .before .before .before .before .before .before .before .before .before .before .args in
+    let q = c .before .before .before .before .before .before .before .before .before .before .before .before .before .before .before .before .before .before .before .before .before .pre in
+    let l = c .before .before .before .before .before .before .before .before .before .before .before .before .before .before .loop in
+    let h = turn-room (a .t .now) (q .0 .0) _ (l .p) (l .at) (l .inv .1) (omega arith) (l .inv .6) in
     let kept : length (l .bounds) ≡ length (a .bounds .now) = l .inv .3 ∙ simp length-set in
-    let k = c .before .before .before .before .before .before .before .before .before .before .before .before .before .put-point .ensures in
-    let w = c .before .before .before .before .before .before .before .before .before .before .before .before .before .put-point in
+    let w = c .before .before .before .before .before .before .before .before .before .put-point in
+    let k = w .ensures in
     let t = tableOf (a .t .now) in
     let fit : 3 * l .p + 3 < length (l .bounds) = omega (arith, h .1, kept, q .0 .2) in (
       omega arith,
@@ -150,11 +148,9 @@ loop-again c =
       simp length-set kept,
       w .kept .1 .0 ∙ l .inv .4,
       w .kept .1 .1 .0 ∙ l .inv .5,
-      w .kept .1 .1 .1 .0 ∙ l .inv .6,
-      w .kept .1 .1 .1 .1 .0 ∙ l .inv .7,
-      need-next t _ (l .p) (l .at) (omega arith) (l .inv .8) _ (k .2),
+      need-next t _ (l .p) (l .at) (omega arith) (l .inv .6) _ (k .2),
       next-start (l .p) (l .bounds) _ _ _ fit,
-      planned-turn (l .p) (l .bounds) _ _ _ fit t (l .plan) (w .last .0) (l .at) (l .inv .10) (l .inv .9) (k .0) (k .1) (w .kept .0),
+      planned-turn (l .p) (l .bounds) _ _ _ fit t (l .plan) (w .last .0) (l .at) (l .inv .8) (l .inv .7) (k .0) (k .1) (w .kept .0),
     )
 
 same-length : tie.Need-same-length Inv-loop μ-loop
@@ -169,17 +165,11 @@ same-length-3 c = c .before .loop .inv .4
 same-length-4 : tie.Need-same-length-4 Inv-loop μ-loop
 same-length-4 c = c .before .loop .inv .5
 
-same-length-5 : tie.Need-same-length-5 Inv-loop μ-loop
-same-length-5 c = c .before .loop .inv .6
-
-same-length-6 : tie.Need-same-length-6 Inv-loop μ-loop
-same-length-6 c = c .before .loop .inv .7
-
 returns : tie.Need-returns Inv-loop μ-loop
 returns c =
-    let a = c .before .before .before .before .before .before .before .before .before .before .args in
+    let a = c .before .before .before .before .before .before .before .before .args in
     let l = c .before .loop in
-    (all-planned (tableOf (a .t .now)) (l .p) (l .plan) (l .bounds) (l .at) (l .inv .10) (omega (arith, l .inv .1)), l .inv .2, l .inv .3 ∙ simp length-set)
+    (all-planned (tableOf (a .t .now)) (l .p) (l .plan) (l .bounds) (l .at) (l .inv .8) (omega (arith, l .inv .1)), l .inv .2, l .inv .3 ∙ simp length-set)
 
 pub put-all-spec : {M : Type 1} → statement M
 put-all-spec =
@@ -214,6 +204,4 @@ put-all-spec =
     same-length-2
     same-length-3
     same-length-4
-    same-length-5
-    same-length-6
     returns)

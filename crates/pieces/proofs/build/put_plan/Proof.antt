@@ -1,5 +1,4 @@
-use native.Mathlib.Omega.{arith}
-use Rattle.pieces.proofs.BuildLaws.{counts-at}
+use Rattle.pieces.proofs.BuildLaws.{range-count-at}
 use borrow.Author.Needs.{needs}
 use Rattle.pieces.proofs.build.put_plan.Statement.{statement}
 use Rattle.pieces.proofs.build.put_plan.Tie as tie
@@ -7,15 +6,11 @@ use Rattle.pieces.proofs.build.put_plan.Tie as tie
 bin-sections-requires : tie.Need-bin-sections-requires
 bin-sections-requires c κs = search needs
 
-larger-requires : tie.Need-larger-requires
-larger-requires c κs = search needs
-
 put-sized-requires : tie.Need-put-sized-requires
 put-sized-requires c κs =
-    let q = c .before .before .before .before .before .before .before .pre in
-    let l = c .before .before .before .bin-sections in
-    let n = counts-at (c .before .before .before .before .before .before .before .args .t .now) (l .result) (l .ensures .0) in
-    (q .0, q .1, q .2, omega (arith, n .0, c .before .before .larger .ensures), omega (arith, n .1, c .before .before .larger .ensures))
+    let q = c .before .before .before .before .before .before .pre in
+    let l = c .before .before .bin-sections in
+    (q .0, q .1, q .2, range-count-at (c .before .before .before .before .before .before .args .t .now) (l .result) (l .ensures .0))
 
 same-length : tie.Need-same-length
 same-length c = c .before .before .before .before .put-sized .ensures .1
@@ -31,7 +26,6 @@ put-plan-spec =
     tie.close
     (tie.spec
     bin-sections-requires
-    larger-requires
     put-sized-requires
     same-length
     same-length-2

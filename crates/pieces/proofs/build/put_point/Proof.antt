@@ -1,4 +1,4 @@
-use mathlib.Core.Path.{sym}
+use mathlib.Core.Path.{sym, _∙_}
 use native.Mathlib.Omega.{arith}
 use lib.Seq.{length-take-le}
 use Rattle.model.proofs.RawExact.{few-points}
@@ -7,39 +7,39 @@ use Rattle.pieces.proofs.build.put_point.Statement.{statement}
 use Rattle.pieces.proofs.build.put_point.Tie as tie
 
 cast-own-part : tie.Need-cast-own-part
-cast-own-part c = omega (arith, few-points (c .before .before .before .before .before .before .args .t .now) (c .before .before .before .before .before .before .pre .0 .0))
+cast-own-part c = omega (arith, few-points (c .before .before .before .before .args .t .now) (c .before .before .before .before .pre .0 .0))
 
 own-part-requires : tie.Need-own-part-requires
 own-part-requires c κs = search needs
 
 put-rows-requires : tie.Need-put-rows-requires
 put-rows-requires c κs =
-    let q = c .before .before .before .before .before .before .before .before .before .before .before .pre in
-    let o = c .before .before .before .before .own-part .ensures in
-    ((q .0 .0, q .0 .1, q .1 .0, q .1 .1, q .1 .2, q .1 .3), (o .0, o .1 .0, o .1 .1, o .1 .2))
+    let q = c .before .before .before .before .before .before .before .before .pre in
+    let o = c .before .before .before .own-part .ensures in
+    ((q .0 .0, q .0 .1, omega (arith, q .0 .2), q .1 .0, q .1 .1), (o .0, o .1 .0, o .1 .1, o .1 .2))
 
 put-excluded-requires : tie.Need-put-excluded-requires
 put-excluded-requires c κs =
-    let q = c .before .before .before .before .before .before .before .before .before .before .before .before .before .before .before .before .before .before .before .before .before .before .pre in
-    let k = c .before .before .before .before .before .before .before .before .before .before .put-rows .kept in
-    let o = c .before .before .before .before .before .before .before .before .before .before .before .before .before .before .before .own-part .ensures in
-    ((q .0 .0, q .0 .1, omega (arith, k .1 .1 .0, q .1 .2), omega (arith, k .1 .1 .0, k .1 .1 .1 .0, q .1 .3)), (o .0, o .1 .0, o .1 .1, o .1 .2))
+    let q = c .before .before .before .before .before .before .before .before .before .before .before .before .before .before .before .before .before .pre in
+    let k = c .before .before .before .before .before .before .before .before .put-rows .kept in
+    let o = c .before .before .before .before .before .before .before .before .before .before .before .before .own-part .ensures in
+    ((q .0 .0, q .0 .1, omega (arith, k .1 .1 .0, q .1 .0), omega (arith, k .1 .1 .0, k .1 .1 .1 .0, q .1 .1)), (o .0, o .1 .0, o .1 .1, o .1 .2))
 
 slice-reshare-prefix-put-by-rows : tie.Need-slice-reshare-prefix-put-by-rows
 slice-reshare-prefix-put-by-rows c = search needs
 
 slice-aggregate-put-by-rows : tie.Need-slice-aggregate-put-by-rows
 slice-aggregate-put-by-rows c =
-    let x = c .before .before .before .before .before .before .before .before .put-excluded in
+    let x = c .before .before .before .before .before .before .put-excluded in
     sym (length-take-le (x .result) (x .last .0) (omega (arith, x .kept .0, x .ensures .2)))
 
 put-by-rows-requires : tie.Need-put-by-rows-requires
 put-by-rows-requires c κs =
-    let q = c .before .before .before .before .before .before .before .before .before .before .before .before .before .before .before .before .before .before .before .before .before .before .before .before .before .before .before .before .before .before .before .pre in
-    let x = c .before .before .before .before .before .before .before .before .put-excluded in
-    let r = c .before .before .before .before .before .before .before .before .before .before .before .before .before .before .before .before .before .before .before .put-rows .ensures in
+    let q = c .before .before .before .before .before .before .before .before .before .before .before .before .before .before .before .before .before .before .before .before .before .before .before .before .pre in
+    let x = c .before .before .before .before .before .before .put-excluded in
+    let r = c .before .before .before .before .before .before .before .before .before .before .before .before .before .before .before .put-rows in
     let k = length-take-le (x .result) (x .last .0) (omega (arith, x .kept .0, x .ensures .2)) in
-    ((q .0 .0, q .0 .1, r .0, r .1, r .2), (x .ensures .0, omega (arith, k, x .ensures .1), q .0 .2))
+    ((q .0 .0, q .0 .1, r .ensures .0, r .ensures .1, r .ensures .2), (x .ensures .0, omega (arith, k, x .ensures .1), omega (arith, q .0 .2, r .kept .0)))
 
 same-length : tie.Need-same-length
 same-length c = search needs
@@ -50,14 +50,10 @@ same-length-2 c = search needs
 same-length-3 : tie.Need-same-length-3
 same-length-3 c = search needs
 
-same-length-4 : tie.Need-same-length-4
-same-length-4 c = search needs
-
-same-length-5 : tie.Need-same-length-5
-same-length-5 c = search needs
-
 returns : tie.Need-returns
-returns c = search needs
+returns c =
+    let e = c .before .before .put-by-rows .ensures in
+    (e .0, e .1 ∙ c .before .before .before .before .before .before .before .before .before .before .before .before .before .before .before .before .before .before .put-rows .ensures .3, e .2)
 
 pub put-point-spec : {M : Type 1} → statement M
 put-point-spec =
@@ -73,6 +69,4 @@ put-point-spec =
     same-length
     same-length-2
     same-length-3
-    same-length-4
-    same-length-5
     returns)

@@ -9,16 +9,10 @@ slice-aggregate-put-all c = search needs
 slice-aggregate-put-all-2 : tie.Need-slice-aggregate-put-all-2
 slice-aggregate-put-all-2 c = search needs
 
-slice-aggregate-put-all-3 : tie.Need-slice-aggregate-put-all-3
-slice-aggregate-put-all-3 c = search needs
-
-slice-aggregate-put-all-4 : tie.Need-slice-aggregate-put-all-4
-slice-aggregate-put-all-4 c = search needs
-
 put-all-requires : tie.Need-put-all-requires
 put-all-requires c κs =
-    let q = c .before .before .before .before .before .before .before .before .before .pre in
-    ((q .0, q .1, q .2), (omega (arith, q .3), omega (arith, q .4), q .3, omega arith))
+    let q = c .before .before .before .before .before .before .before .pre in
+    ((q .0, q .1, q .2), (q .3, omega arith))
 
 same-length : tie.Need-same-length
 same-length c = search needs
@@ -35,8 +29,6 @@ put-small-spec =
     (tie.spec
     slice-aggregate-put-all
     slice-aggregate-put-all-2
-    slice-aggregate-put-all-3
-    slice-aggregate-put-all-4
     put-all-requires
     same-length
     same-length-2

@@ -10,6 +10,9 @@ use Rattle.pieces.proofs.plan.put_meets.Tie as tie
 mul-element : tie.Need-mul-element
 mul-element c = omega (arith, few-points (c .before .before .before .before .args .t .now) (c .before .before .before .before .pre .0 .0))
 
+add-element : tie.Need-add-element
+add-element c = omega (arith, few-points (c .before .before .before .before .args .t .now) (c .before .before .before .before .pre .0 .0))
+
 element-requires : tie.Need-element-requires
 element-requires c κs = search needs
 
@@ -19,8 +22,8 @@ cast-from c = search needs
 mul-element-2 : tie.Need-mul-element-2
 mul-element-2 c = omega (arith, few-points (c .before .before .before .before .before .args .t .now) (c .before .before .before .before .before .pre .0 .0))
 
-add-element : tie.Need-add-element
-add-element c = omega (arith, few-points (c .before .before .before .before .before .args .t .now) (c .before .before .before .before .before .pre .0 .0))
+add-element-2 : tie.Need-add-element-2
+add-element-2 c = omega (arith, few-points (c .before .before .before .before .before .args .t .now) (c .before .before .before .before .before .pre .0 .0))
 
 element-requires-2 : tie.Need-element-requires-2
 element-requires-2 c κs = search needs
@@ -31,8 +34,8 @@ cast-mid c = search needs
 mul-element-3 : tie.Need-mul-element-3
 mul-element-3 c = omega (arith, few-points (c .before .before .before .before .before .before .args .t .now) (c .before .before .before .before .before .before .pre .0 .0))
 
-add-element-2 : tie.Need-add-element-2
-add-element-2 c = omega (arith, few-points (c .before .before .before .before .before .before .args .t .now) (c .before .before .before .before .before .before .pre .0 .0))
+add-element-3 : tie.Need-add-element-3
+add-element-3 c = omega (arith, few-points (c .before .before .before .before .before .before .args .t .now) (c .before .before .before .before .before .before .pre .0 .0))
 
 element-requires-3 : tie.Need-element-requires-3
 element-requires-3 c κs = search needs
@@ -50,22 +53,22 @@ sub-put-met : tie.Need-sub-put-met
 sub-put-met c =
     let a = c .before .before .before .before .before .before .before .before .before .args in
     let q = c .before .before .before .before .before .before .before .before .before .pre in
-    let o = plan-at (tableOf (a .t .now)) (a .plan .now) (a .bounds .now) (a .q .point) _ _ _ _ (q .0 .2) (q .0 .1) (c .before .before .before .before .element .ensures) (c .before .before .before .element2 .ensures) (c .before .before .element3 .ensures) refl in
-    omega (arith, o .order₁)
+    let o = plan-at (tableOf (a .t .now)) (a .plan .now) (a .bounds .now) (a .q .point) _ _ _ _ (q .0 .2) (q .0 .1) refl (c .before .before .before .before .element .ensures) (c .before .before .before .element2 .ensures) (c .before .before .element3 .ensures) in
+    omega (arith, o .order₂)
 
 part-put-met-start : tie.Need-part-put-met-start
 part-put-met-start c =
     let a = c .before .before .before .before .before .before .before .before .before .args in
     let q = c .before .before .before .before .before .before .before .before .before .pre in
-    let o = plan-at (tableOf (a .t .now)) (a .plan .now) (a .bounds .now) (a .q .point) _ _ _ _ (q .0 .2) (q .0 .1) (c .before .before .before .before .element .ensures) (c .before .before .before .element2 .ensures) (c .before .before .element3 .ensures) refl in
-    omega (arith, o .order₁, o .order₂, o .order₃)
+    let o = plan-at (tableOf (a .t .now)) (a .plan .now) (a .bounds .now) (a .q .point) _ _ _ _ (q .0 .2) (q .0 .1) refl (c .before .before .before .before .element .ensures) (c .before .before .before .element2 .ensures) (c .before .before .element3 .ensures) in
+    omega (arith, o .order₂, o .order₃)
 
 part-put-met-end : tie.Need-part-put-met-end
 part-put-met-end c =
     let a = c .before .before .before .before .before .before .before .before .before .args in
     let q = c .before .before .before .before .before .before .before .before .before .pre in
-    let o = plan-at (tableOf (a .t .now)) (a .plan .now) (a .bounds .now) (a .q .point) _ _ _ _ (q .0 .2) (q .0 .1) (c .before .before .before .before .element .ensures) (c .before .before .before .element2 .ensures) (c .before .before .element3 .ensures) refl in
-    omega (arith, o .order₁, o .order₂, o .order₃)
+    let o = plan-at (tableOf (a .t .now)) (a .plan .now) (a .bounds .now) (a .q .point) _ _ _ _ (q .0 .2) (q .0 .1) refl (c .before .before .before .before .element .ensures) (c .before .before .before .element2 .ensures) (c .before .before .element3 .ensures) in
+    omega (arith, o .order₂, o .order₃)
 
 mul-put-met-2 : tie.Need-mul-put-met-2
 mul-put-met-2 c = search needs
@@ -74,28 +77,28 @@ sub-put-met-2 : tie.Need-sub-put-met-2
 sub-put-met-2 c =
     let a = c .before .before .before .before .before .before .before .before .before .before .args in
     let q = c .before .before .before .before .before .before .before .before .before .before .pre in
-    let o = plan-at (tableOf (a .t .now)) (a .plan .now) (a .bounds .now) (a .q .point) _ _ _ _ (q .0 .2) (q .0 .1) (c .before .before .before .before .before .element .ensures) (c .before .before .before .before .element2 .ensures) (c .before .before .before .element3 .ensures) refl in
-    omega (arith, o .order)
+    let o = plan-at (tableOf (a .t .now)) (a .plan .now) (a .bounds .now) (a .q .point) _ _ _ _ (q .0 .2) (q .0 .1) refl (c .before .before .before .before .before .element .ensures) (c .before .before .before .before .element2 .ensures) (c .before .before .before .element3 .ensures) in
+    omega (arith, o .order₁)
 
 part-put-met-start-2 : tie.Need-part-put-met-start-2
 part-put-met-start-2 c =
     let a = c .before .before .before .before .before .before .before .before .before .before .args in
     let q = c .before .before .before .before .before .before .before .before .before .before .pre in
-    let o = plan-at (tableOf (a .t .now)) (a .plan .now) (a .bounds .now) (a .q .point) _ _ _ _ (q .0 .2) (q .0 .1) (c .before .before .before .before .before .element .ensures) (c .before .before .before .before .element2 .ensures) (c .before .before .before .element3 .ensures) refl in
-    omega (arith, o .order, o .order₁, o .order₂, o .order₃)
+    let o = plan-at (tableOf (a .t .now)) (a .plan .now) (a .bounds .now) (a .q .point) _ _ _ _ (q .0 .2) (q .0 .1) refl (c .before .before .before .before .before .element .ensures) (c .before .before .before .before .element2 .ensures) (c .before .before .before .element3 .ensures) in
+    omega (arith, o .order₁, o .order₂, o .order₃)
 
 part-put-met-end-2 : tie.Need-part-put-met-end-2
 part-put-met-end-2 c =
     let a = c .before .before .before .before .before .before .before .before .before .before .args in
     let q = c .before .before .before .before .before .before .before .before .before .before .pre in
-    let o = plan-at (tableOf (a .t .now)) (a .plan .now) (a .bounds .now) (a .q .point) _ _ _ _ (q .0 .2) (q .0 .1) (c .before .before .before .before .before .element .ensures) (c .before .before .before .before .element2 .ensures) (c .before .before .before .element3 .ensures) refl in
-    omega (arith, o .order, o .order₁, o .order₂, o .order₃)
+    let o = plan-at (tableOf (a .t .now)) (a .plan .now) (a .bounds .now) (a .q .point) _ _ _ _ (q .0 .2) (q .0 .1) refl (c .before .before .before .before .before .element .ensures) (c .before .before .before .before .element2 .ensures) (c .before .before .before .element3 .ensures) in
+    omega (arith, o .order₁, o .order₂, o .order₃)
 
 put-met-requires : tie.Need-put-met-requires
 put-met-requires c κs =
     let a = c .before .before .before .before .before .before .before .before .before .before .before .args in
     let q = c .before .before .before .before .before .before .before .before .before .before .before .pre in
-    let o = plan-at (tableOf (a .t .now)) (a .plan .now) (a .bounds .now) (a .q .point) _ _ _ _ (q .0 .2) (q .0 .1) (c .before .before .before .before .before .before .element .ensures) (c .before .before .before .before .before .element2 .ensures) (c .before .before .before .before .element3 .ensures) refl in
+    let o = plan-at (tableOf (a .t .now)) (a .plan .now) (a .bounds .now) (a .q .point) _ _ _ _ (q .0 .2) (q .0 .1) refl (c .before .before .before .before .before .before .element .ensures) (c .before .before .before .before .before .element2 .ensures) (c .before .before .before .before .element3 .ensures) in
     let b = c .before .before .before .limits-of .ensures in
     let lo = in-type (tableOf (a .t .now)) (a .q .point) (a .q .lo) (q .1 .2) in
     let hi = in-type (tableOf (a .t .now)) (a .q .point) (a .q .hi) (q .1 .3) in
@@ -108,7 +111,7 @@ returns : tie.Need-returns
 returns c =
     let a = c .before .before .before .before .before .before .before .before .before .before .before .before .before .before .args in
     let q = c .before .before .before .before .before .before .before .before .before .before .before .before .before .before .pre in
-    let o = plan-at (tableOf (a .t .now)) (a .plan .now) (a .bounds .now) (a .q .point) _ _ _ _ (q .0 .2) (q .0 .1) (c .before .before .before .before .before .before .before .before .before .element .ensures) (c .before .before .before .before .before .before .before .before .element2 .ensures) (c .before .before .before .before .before .before .before .element3 .ensures) refl in
+    let o = plan-at (tableOf (a .t .now)) (a .plan .now) (a .bounds .now) (a .q .point) _ _ _ _ (q .0 .2) (q .0 .1) refl (c .before .before .before .before .before .before .before .before .before .element .ensures) (c .before .before .before .before .before .before .before .before .element2 .ensures) (c .before .before .before .before .before .before .before .element3 .ensures) in
     let b = c .before .before .before .before .before .before .limits-of .ensures in
     c .before .before .put-met .ensures (tableOf (a .t .now)) (a .q .point) (plan-asked (tableOf (a .t .now)) (a .q .point) (a .plan .now) _ _ _ _ _ _ _ _ o (b .0) (q .1 .2) (q .1 .3) (q .1 .0))
 
@@ -117,14 +120,15 @@ put-meets-spec =
     tie.close
     (tie.spec
     mul-element
+    add-element
     element-requires
     cast-from
     mul-element-2
-    add-element
+    add-element-2
     element-requires-2
     cast-mid
     mul-element-3
-    add-element-2
+    add-element-3
     element-requires-3
     cast-to
     limits-of-requires
