@@ -25,7 +25,7 @@ use Rattle.layout.specs.Places.{layoutOf}
 use Rattle.arrays.specs.Put.{put}
 use Rattle.arrays.proofs.PutLaws.{front-put}
 use Rattle.arrays.specs.Flat.{hitFlags, covers, pointStart, readingCode}
-use Rattle.values.specs.Flags.{listedIn}
+use Rattle.values.specs.Listed.{listedIn}
 use Rattle.values.proofs.PointExact.{bins-raw, few-counters}
 use Rattle.places.specs.Places.{placesFrom, isSet, hitParts}
 use Rattle.places.proofs.PlaceLaws.{places-map, places-agree, places-few, places-below}

@@ -13,7 +13,7 @@ ghost use Prim.Native.Nat.{_<_, _≤_, _+_};
 ghost use lib.ListN.{length, getD};
 ghost use Rattle.model.specs.Raw.{binAt, binsAt};
 ghost use Rattle.arrays.specs.Put.{put};
-ghost use Rattle.values.specs.Flags.{listedIn};
+ghost use Rattle.values.specs.Listed.{listedIn};
 ghost use Rattle.hits.specs.Plains.{isPlainBin, plainHit, plainHits};
 
 // The number of a point, its value in a sample, and whether a bin of the point lists it.

@@ -7,8 +7,8 @@ use Prim.Native.Nat.{ℕ, _+_, _*_, _≤_, _<_}
 use native.Mathlib.Omega.{arith}
 use lib.ListN.{length, replicate, length-map}
 use Rattle.model.specs.Table.{Point, ValueBin, Table}
-use Rattle.model.specs.Values.{lowest, highest}
-use Rattle.model.specs.Counters.{pointAt, autoCount, hasAuto, valueCounters, pointCounters}
+use Rattle.model.specs.Values.{lowest}
+use Rattle.model.specs.Counters.{pointAt, hasAuto, valueCounters, pointCounters}
 use Rattle.model.specs.Format.{pointRecord, decode, decoded, accepted, tableOf}
 use Rattle.model.specs.Raw.{binsAt}
 use Rattle.model.specs.Register.{pointTotal}
@@ -20,15 +20,16 @@ use Rattle.ranges.specs.Types.{Wide}
 use Rattle.layout.specs.Places.{layoutOf}
 use Rattle.layout.specs.declared.Layout.{Layout}
 use Rattle.arrays.specs.Flat.{covers, origin}
+use Rattle.values.specs.Counts.{autosOf}
 use Rattle.values.specs.Points.{hasAutoAt}
 use Rattle.values.proofs.PointExact.{auto-raw, point-raw, few-counters, few-values, bins-raw}
 use Rattle.values.proofs.Ready.{all-near, wide}
 use Rattle.spans.specs.declared.collects.Bins.{Bins}
 use Rattle.spans.specs.Part.{PartOf, OwnPart}
 use Rattle.spans.proofs.PartLaws.{part-auto}
-use Rattle.origins.specs.Parts.{autoParts, originsIn, firstOf, pointOrigins}
+use Rattle.origins.specs.Points.{originsIn, firstOf, pointOrigins}
 use Rattle.origins.proofs.OriginLaws.{part-first, part-origins}
-use Rattle.origins.proofs.PartsExact.{covers-origins}
+use Rattle.origins.proofs.Exact.{covers-origins}
 
 module _ (s : List ℕ) (ok : accepted s ≡ true) where
   abbrev T : Table
@@ -91,9 +92,9 @@ module _ (s : List ℕ) (ok : accepted s ≡ true) where
         origins-are =
             let q = pointRecord s (l .points + 11 * p) in
             covers-origins T p w few
-            ∙ ap₂ (λ (x : Point) (bs : List ValueBin). originsIn (lowest x) p 0 bs ++ replicate (length (autoParts (hasAuto T p) (lowest x) (highest x) (autoCount x))) 65535) point-is bins-are
+            ∙ ap₂ (λ (x : Point) (bs : List ValueBin). originsIn (lowest x) p 0 bs ++ replicate (autosOf (hasAuto T p) x) 65535) point-is bins-are
             ∙ sym
-            (ap₂ (λ (xs : List ℕ) (c : Bool). xs ++ replicate (length (autoParts c (lowest q) (highest q) (autoCount q))) 65535)
+            (ap₂ (λ (xs : List ℕ) (c : Bool). xs ++ replicate (autosOf c q) 65535)
             (part-origins s (lowest q) p (l .bins) (l .ranges) (l .«bin_count») (own .bins) (own .ranges) (own .count) part)
             (part-auto s p (l .bins) (l .ranges) (l .«bin_count») (own .bins) (own .ranges) (own .count) part (l .transitions) (l .«transition_count») ∙ sym auto-is))
 

@@ -1,6 +1,5 @@
-pub mod FormLaws
-pub mod PartLaws
+pub mod CountLaws
 pub mod OriginLaws
-pub mod PartsExact
+pub mod Exact
 pub mod Accepted
 pub mod PointRows

@@ -6,26 +6,26 @@ use mathlib.Core.List.{List, [], _++_}
 use Prim.Native.Nat.{ℕ, zero, suc, _+_, _-_, _*_, _/_, _≤_, _<_}
 use native.Mathlib.Omega.{arith}
 use lib.Dec.{eqb}
-use lib.ListN.{length, replicate}
-use Rattle.model.specs.Table.{Range, isCover}
-use Rattle.model.specs.Values.{lowest, highest}
-use Rattle.model.specs.Counters.{autoCount}
+use lib.ListN.{replicate}
+use Rattle.model.specs.Table.{isCover}
+use Rattle.model.specs.Values.{lowest}
 use Rattle.model.specs.Format.{byte, u16, kindFrom, pointRecord}
 use Rattle.model.specs.Raw.{binAt, binsAt}
 use Rattle.model.proofs.Lists.{none-left, one-left}
+use Rattle.values.specs.Counts.{coverCount, autosOf}
 use Rattle.values.specs.Points.{hasAutoAt}
 use Rattle.layout.specs.declared.Layout.{Layout}
 use Rattle.spans.specs.declared.collects.Bins.{Bins}
 use Rattle.spans.specs.Part.{Other, OthersTo, OthersFrom, rangesPast, PartOf}
 use Rattle.spans.proofs.PartLaws.{shift, first-other}
-use Rattle.origins.specs.Parts.{parts, ownParts, autoParts, originsIn, firstOf, pointOrigins}
+use Rattle.origins.specs.Points.{ownCount, originsIn, firstOf, pointOrigins}
 
 module _ (s : List ℕ) (low p first b r n i : ℕ) where
   pub origins-end : n ≤ i → originsIn low p (first + i) (binsAt s b r (n - i)) ≡ []
   unfolding originsIn binsAt
   origins-end h = ap (λ (m : ℕ). originsIn low p (first + i) (binsAt s b r m)) (none-left n i h)
 
-  pub origins-turn : (m k : ℕ) → i < n → m ≡ length (ownParts low p (binAt s b r)) → k ≡ u16 s (b + 6)
+  pub origins-turn : (m k : ℕ) → i < n → m ≡ ownCount low p (binAt s b r) → k ≡ u16 s (b + 6)
       → originsIn low p (first + i) (binsAt s b r (n - i)) ≡ replicate m (first + i) ++ originsIn low p (first + (i + 1)) (binsAt s (b + 8) (r + 17 * k) (n - (i + 1)))
   unfolding originsIn binsAt
   origins-turn m k h em ek =
@@ -38,21 +38,21 @@ origins-start s low p first b r n = ap₂ (λ (f m : ℕ). originsIn low p f (bi
 
 pub origins-point : (s : List ℕ) (l : Layout) (own : Bins) (p low first m : ℕ) (has : Bool) → low ≡ lowest (pointRecord s (l .points + 11 * p)) → first ≡ firstOf l own
     → has ≡ hasAutoAt s p (own .bins) (own .count) (l .transitions) (l .«transition_count»)
-    → m ≡ length (autoParts has (lowest (pointRecord s (l .points + 11 * p))) (highest (pointRecord s (l .points + 11 * p))) (autoCount (pointRecord s (l .points + 11 * p))))
+    → m ≡ autosOf has (pointRecord s (l .points + 11 * p))
     → pointOrigins s l own p ≡ originsIn low p first (binsAt s (own .bins) (own .ranges) (own .count)) ++ replicate m 65535
 unfolding pointOrigins
 origins-point s l own p low first m has el ef eh em =
     let q = pointRecord s (l .points + 11 * p) in
     let bs = binsAt s (own .bins) (own .ranges) (own .count) in
     sym (ap₂ (λ (x y : ℕ). originsIn x p y bs ++ replicate m 65535) el ef
-    ∙ ap (λ (y : ℕ). originsIn (lowest q) p (firstOf l own) bs ++ replicate y 65535) (em ∙ ap (λ (c : Bool). length (autoParts c (lowest q) (highest q) (autoCount q))) eh))
+    ∙ ap (λ (y : ℕ). originsIn (lowest q) p (firstOf l own) bs ++ replicate y 65535) (em ∙ ap (λ (c : Bool). autosOf c q) eh))
 
 -- ---- from the first to the last of the point's bins
 
 module _ (s : List ℕ) (low p : ℕ) where
-  other-none : (a r : ℕ) → Other s p a → ownParts low p (binAt s a r) ≡ []
-  unfolding ownParts
-  other-none a r h = ap (λ (c : Bool). cond (c && isCover (kindFrom (byte s (a + 1)))) (parts low (binAt s a r .form) (binAt s a r .ranges)) []) h
+  other-none : (a r : ℕ) → Other s p a → ownCount low p (binAt s a r) ≡ 0
+  unfolding ownCount
+  other-none a r h = ap (λ (c : Bool). cond (c && isCover (kindFrom (byte s (a + 1)))) (coverCount low (binAt s a r .form) (binAt s a r .ranges)) 0) h
 
   origins-skip : (k m i a r n : ℕ) → n ≡ k + m → OthersTo s p a k → originsIn low p i (binsAt s a r n) ≡ originsIn low p (i + k) (binsAt s (a + 8 * k) (rangesPast s a r k) m)
   unfolding originsIn binsAt rangesPast
@@ -62,7 +62,7 @@ module _ (s : List ℕ) (low p : ℕ) where
   origins-skip (suc k) m i a r zero e h = absurd (omega arith)
   origins-skip (suc k) m i a r (suc n) e h =
       let q = r + 17 * u16 s (a + 6) in
-      ap (λ (xs : List (List Range)). replicate (length xs) i ++ originsIn low p (i + 1) (binsAt s (a + 8) q n)) (other-none a r (first-other s p a (h 0 (omega arith))))
+      ap (λ (k : ℕ). replicate k i ++ originsIn low p (i + 1) (binsAt s (a + 8) q n)) (other-none a r (first-other s p a (h 0 (omega arith))))
       ∙ origins-skip k m (i + 1) (a + 8) q n (omega arith) (λ j g. shift s p a j (h (suc j) (omega arith)))
       ∙ ap₂ (λ (x y : ℕ). originsIn low p x (binsAt s y (rangesPast s (a + 8) q k) m)) (let z : i + 1 + k ≡ i + suc k = omega arith in z) (let z : a + 8 + 8 * k ≡ a + 8 * suc k = omega arith in z)
 
@@ -71,11 +71,11 @@ module _ (s : List ℕ) (low p : ℕ) where
   origins-trim zero zero i a r e h = refl
   origins-trim zero (suc n) i a r e h =
       let q = r + 17 * u16 s (a + 6) in
-      ap (λ (xs : List (List Range)). replicate (length xs) i ++ originsIn low p (i + 1) (binsAt s (a + 8) q n)) (other-none a r (first-other s p a (h 0 (omega arith) (omega arith))))
+      ap (λ (k : ℕ). replicate k i ++ originsIn low p (i + 1) (binsAt s (a + 8) q n)) (other-none a r (first-other s p a (h 0 (omega arith) (omega arith))))
       ∙ origins-trim zero n (i + 1) (a + 8) q (omega arith) (λ j g k. shift s p a j (h (suc j) (omega arith) (omega arith)))
   origins-trim (suc m) zero i a r e h = absurd (omega arith)
   origins-trim (suc m) (suc n) i a r e h =
-      ap (replicate (length (ownParts low p (binAt s a r))) i ++_) (origins-trim m n (i + 1) (a + 8) (r + 17 * u16 s (a + 6)) (omega arith) (λ j g k. shift s p a j (h (suc j) (omega arith) (omega arith))))
+      ap (replicate (ownCount low p (binAt s a r)) i ++_) (origins-trim m n (i + 1) (a + 8) (r + 17 * u16 s (a + 6)) (omega arith) (λ j g k. shift s p a j (h (suc j) (omega arith) (omega arith))))
 
   module _ (a r n b q m : ℕ) (o : PartOf s p a r n b q m) where
     pub part-first : (b - a) / 8 ≡ o .skipped

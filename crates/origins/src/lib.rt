@@ -2,7 +2,9 @@
 use crate::listed::put_point_origins;
 use layout::Layout;
 use layout::layout_of;
-use spans::part::own_part;
+use spans::collects::Bins;
+use spans::part::own_parts;
+use spans::part::part_of;
 ghost use mathlib.Core.Path.{_≡_};
 ghost use mathlib.Core.Bool.{true};
 ghost use mathlib.Core.List.{map};
@@ -11,17 +13,17 @@ ghost use lib.ListN.{length};
 ghost use Rattle.model.specs.Format.{accepted, tableOf};
 ghost use Rattle.model.specs.Register.{pointTotal};
 ghost use Rattle.layout.specs.Places.{layoutOf, Small};
+ghost use Rattle.spans.specs.Part.{OwnBins};
 ghost use Rattle.arrays.specs.Put.{put};
 ghost use Rattle.arrays.specs.Flat.{covers, origin, Origins};
 
 pub mod listed;
 
-// Of point p, in a table with that layout.
-fn put_origins_at(out: &mut [u16], t: &[u8], l: Layout, p: usize)
-    requires { ⌜ (accepted (now t) ≡ true) × (l ≡ layoutOf (now t)) × Small l × (p < pointTotal (tableOf (now t))) × (256 * pointTotal (tableOf (now t)) ≤ length (now out)) ⌝ }
+// Of point p, whose value bins are among those of `own`, in a table with that layout.
+fn put_origins_at(out: &mut [u16], t: &[u8], l: Layout, own: Bins, p: usize)
+    requires { ⌜ (accepted (now t) ≡ true) × (l ≡ layoutOf (now t)) × Small l × (p < pointTotal (tableOf (now t))) × OwnBins (now t) p own × (256 * pointTotal (tableOf (now t)) ≤ length (now out)) ⌝ }
     ensures { λ _. ⌜ now (out .exit) ≡ put (256 * p) (map origin (covers (tableOf (now (t .entry))) p)) (now (out .entry)) ⌝ }
 {
-    let own = own_part(t, p as u8);
     put_point_origins(out, 256 * p, t, l, own, p as u8);
 }
 
@@ -32,9 +34,11 @@ pub fn put_origins(origins: &mut [u16], t: &[u8])
 {
     let l = layout_of(t);
     let n = l.point_count;
+    let parts = own_parts(t);
     let mut p = 0;
     while p < n {
-        put_origins_at(origins, t, l, p);
+        let own = part_of(parts, p);
+        put_origins_at(origins, t, l, own, p);
         p += 1;
     }
 }

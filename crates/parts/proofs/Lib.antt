@@ -1,4 +1,5 @@
 pub mod Rising
+pub mod Dealt
 pub mod Rule
 pub mod SpanLaws
 pub mod FlagLaws

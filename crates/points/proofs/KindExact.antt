@@ -1,26 +1,25 @@
 -- The kinds of a point's counters, by the places of its bins, are the model's.
 -- Assumes nothing.
 use mathlib.Core.Path.{_≡_, refl, sym, ap, ap₂, _∙_, subst}
-use mathlib.Core.Bool.{Bool, true, false, _&&_, cond}
+use mathlib.Core.Bool.{Bool, true, false, cond}
 use mathlib.Core.List.{List, [], _∷_, _++_, map, map-append}
 use Prim.Native.Nat.{ℕ, zero, suc, _+_, _-_, _*_, _≤_, _<_}
 use native.Mathlib.Omega.{arith}
 use native.Mathlib.Numerals.{add-one}
 use lib.Dec.{eqb}
-use lib.ListN.{length, set, length-append, length-map}
+use lib.ListN.{length, set, replicate, length-append, length-map, length-replicate}
 use borrow.Author.Tests.{eqb-true}
-use Rattle.model.specs.Lists.{upFrom, concatOf, asBit}
+use Rattle.model.specs.Lists.{upFrom, concatOf}
 use Rattle.model.specs.Table.{Kind, cover, ignore, illegal, default, ValueBin, TransitionBin, Table}
-use Rattle.model.specs.Values.{lowest, binCount, inBin}
+use Rattle.model.specs.Values.{lowest, binCount}
 use Rattle.model.specs.Counters.{Counter, valueBin, listed, auto, pointAt, autoCount, hasAuto, binCounters, valueCounters, autoCounters, transitionCounter, transitionCounters, pointCounters}
 use Rattle.model.specs.Format.{byte, kindFrom, pointRecord, accepted, tableOf}
 use Rattle.model.specs.Raw.{recordsPlace, recordCount, binsAt, transitionsAt, stepTotal, rangeTotal}
 use Rattle.model.specs.Register.{pointTotal}
 use Rattle.model.proofs.Readers.{All}
 use Rattle.model.proofs.WellFormed.{GoodBin, WellFormed, well-formed}
-use Rattle.model.proofs.Exact.{Divisible}
-use Rattle.model.proofs.TableExact.{point-at, divisible}
-use Rattle.model.proofs.Lists.{map-map, length-row, from-step, from-end}
+use Rattle.model.proofs.TableExact.{divisible}
+use Rattle.model.proofs.Lists.{length-row, from-step, from-end}
 use Rattle.model.proofs.Sections.{accepted-decodes}
 use Rattle.model.proofs.RawExact.{accepted-raw, few-points}
 use Rattle.arrays.specs.Put.{put}
@@ -30,15 +29,15 @@ use Rattle.arrays.proofs.Written.{both-written}
 use Rattle.arrays.proofs.FlatLaws.{kinds-length}
 use Rattle.layout.specs.declared.Layout.{Layout}
 use Rattle.layout.specs.Places.{layoutOf}
-use Rattle.values.specs.Flags.{fixedFlags, binFits, fits}
-use Rattle.values.specs.Points.{hasAutoAt, autoPart}
-use Rattle.values.proofs.FlagsExact.{cover-exact}
+use Rattle.values.specs.Counts.{autosOf}
+use Rattle.values.specs.Points.{hasAutoAt}
+use Rattle.values.proofs.CountExact.{counted, map-same}
 use Rattle.values.proofs.PointExact.{auto-raw, few-values, bins-raw}
 use Rattle.spans.specs.declared.collects.Bins.{Bins}
 use Rattle.spans.specs.Part.{PartOf, OwnPart}
-use Rattle.spans.proofs.PartLaws.{ownBins, own-part, part-auto, part-all}
+use Rattle.spans.proofs.PartLaws.{ownBins, own-part, part-auto}
 use Rattle.points.specs.Kinds.{kindsBy, binKinds, kindsIn, transitionKind, transitionKinds, transitionKindsFrom}
-use Rattle.points.proofs.ValueLaws.{places-ready, record-is}
+use Rattle.points.proofs.ValueLaws.{record-is}
 use Rattle.points.proofs.TransitionExact.{bins-are}
 use Rattle.points.proofs.AllLaws.{few-here, points-turn, points-end, points-all, counters-room}
 
@@ -47,16 +46,13 @@ module _ (t : Table) (ok : WellFormed t) (p : ℕ) where
       → map kindOf (binCounters b (u .kind) (binCount (pointAt t p) (u .form) (u .ranges))) ≡ kindsBy (lowest (pointAt t p)) (u .kind) u
   bin-kinds b u good y few = go (u .kind) few
     where
-      split : Divisible (pointAt t p) (point-at t ok p) (u .form) (u .ranges)
-      split = rw y at (divisible t ok u good)
+      n : ℕ
+      n = binCount (pointAt t p) (u .form) (u .ranges)
 
-      long : length (map (λ k. valueBin (listed b k)) (upFrom 0 (binCount (pointAt t p) (u .form) (u .ranges)))) ≡ binCount (pointAt t p) (u .form) (u .ranges)
-      long = length-row (λ k. valueBin (listed b k)) 0 (binCount (pointAt t p) (u .form) (u .ranges))
-
-      go : (k : Kind) → length (binCounters b k (binCount (pointAt t p) (u .form) (u .ranges))) ≤ 256 → map kindOf (binCounters b k (binCount (pointAt t p) (u .form) (u .ranges))) ≡ kindsBy (lowest (pointAt t p)) k u
+      go : (k : Kind) → length (binCounters b k n) ≤ 256 → map kindOf (binCounters b k n) ≡ kindsBy (lowest (pointAt t p)) k u
       go cover few =
-          map-map kindOf (λ k. valueBin (listed b k)) (λ k. asBit (false && inBin (pointAt t p) (u .form) (u .ranges) k (lowest (pointAt t p)))) (λ k. refl) (upFrom 0 (binCount (pointAt t p) (u .form) (u .ranges)))
-          ∙ cover-exact (pointAt t p) (point-at t ok p) (lowest (pointAt t p)) false (u .form) (u .ranges) split (omega (arith, long))
+          map-same kindOf (λ k. valueBin (listed b k)) 0 (λ k. refl) 0 n
+          ∙ ap (λ (m : ℕ). replicate m 0) (counted t p ok (u .form) (u .ranges) (rw y at (divisible t ok u good)) (omega (arith, length-row (λ k. valueBin (listed b k)) 0 n)))
       go ignore few = refl
       go illegal few = refl
       go default few = refl
@@ -93,12 +89,11 @@ kinds-own low p (u ∷ us) = go (eqb (u .point) p) refl (kinds-own low p us)
 part-kinds : (s : List ℕ) (low p a r n b q m : ℕ) → PartOf s p a r n b q m → kindsIn low p (binsAt s b q m) ≡ kindsIn low p (binsAt s a r n)
 part-kinds s low p a r n b q m o = sym (kinds-own low p (binsAt s b q m)) ∙ ap (kindsIn low p) (own-part s p a r n b q m o) ∙ kinds-own low p (binsAt s a r n)
 
-auto-kinds : (t : Table) (p v : ℕ) → map kindOf (autoCounters t p) ≡ autoPart (hasAuto t p) false v (pointAt t p)
-unfolding fixedFlags
-auto-kinds t p v = go (hasAuto t p)
+auto-kinds : (t : Table) (p : ℕ) → map kindOf (autoCounters t p) ≡ replicate (autosOf (hasAuto t p) (pointAt t p)) 0
+auto-kinds t p = go (hasAuto t p)
   where
-    go : (c : Bool) → map kindOf (cond c (map (λ k. valueBin (auto p k)) (upFrom 0 (autoCount (pointAt t p)))) []) ≡ autoPart c false v (pointAt t p)
-    go true = map-map kindOf (λ k. valueBin (auto p k)) (λ k. 0) (λ k. refl) (upFrom 0 (autoCount (pointAt t p)))
+    go : (c : Bool) → map kindOf (cond c (map (λ k. valueBin (auto p k)) (upFrom 0 (autoCount (pointAt t p)))) []) ≡ replicate (autosOf c (pointAt t p)) 0
+    go true = map-same kindOf (λ k. valueBin (auto p k)) 0 (λ k. refl) 0 (autoCount (pointAt t p))
     go false = refl
 
 transition-kinds : (s : List ℕ) (p b n i q k r : ℕ) → map kindOf (transitionCounters p i (transitionsAt s (b + 4 * i) q k r n)) ≡ transitionKindsFrom s p b i n
@@ -131,7 +126,7 @@ transition-kinds s p b (suc n) i q k r =
 module _ (s : List ℕ) (ok : accepted s ≡ true) (p : ℕ) (inside : p < pointTotal (tableOf s)) where
   raw-kinds : kindsOf (pointCounters (tableOf s) p)
       ≡ (kindsIn (lowest (pointAt (tableOf s) p)) p (binsAt s (recordsPlace s 1) (recordsPlace s 2) (recordCount s 1))
-      ++ autoPart (hasAutoAt s p (recordsPlace s 1) (recordCount s 1) (recordsPlace s 3) (recordCount s 3)) false (lowest (pointAt (tableOf s) p)) (pointAt (tableOf s) p))
+      ++ replicate (autosOf (hasAutoAt s p (recordsPlace s 1) (recordCount s 1) (recordsPlace s 3) (recordCount s 3)) (pointAt (tableOf s) p)) 0)
       ++ transitionKindsFrom s p (recordsPlace s 3) 0 (recordCount s 3)
   unfolding kindsOf pointCounters
   raw-kinds =
@@ -144,7 +139,7 @@ module _ (s : List ℕ) (ok : accepted s ≡ true) (p : ℕ) (inside : p < point
       (map-append kindOf (valueCounters t p 0 (t .valueBins)) (autoCounters t p)
       ∙ ap₂ _++_
       (value-kinds t good p 0 (t .valueBins) (good .bins) (few-values s t d p inside) ∙ ap (kindsIn low p) (bins-raw s t d p inside))
-      (auto-kinds t p low ∙ ap (λ (b : Bool). autoPart b false low (pointAt t p)) (ap (λ (u : Table). hasAuto u p) (accepted-raw s ok) ∙ auto-raw s p)))
+      (auto-kinds t p ∙ ap (λ (b : Bool). replicate (autosOf b (pointAt t p)) 0) (ap (λ (u : Table). hasAuto u p) (accepted-raw s ok) ∙ auto-raw s p)))
       (ap (λ (us : List TransitionBin). map kindOf (transitionCounters p 0 us))
       (bins-are s ok ∙ ap (λ (at : ℕ). transitionsAt s at (recordsPlace s 4) (recordsPlace s 5) (recordsPlace s 6) (recordCount s 3)) (let z : recordsPlace s 3 ≡ recordsPlace s 3 + 4 * 0 = omega arith in z))
       ∙ transition-kinds s p (recordsPlace s 3) (recordCount s 3) 0 (recordsPlace s 4) (recordsPlace s 5) (recordsPlace s 6))
@@ -154,22 +149,22 @@ module _ (s : List ℕ) (ok : accepted s ≡ true) (p : ℕ) (inside : p < point
     unfolding layoutOf
     part = subst (λ (x : Layout). PartOf s p (x .bins) (x .ranges) (x .«bin_count») (own .bins) (own .ranges) (own .count)) (sym e) o
 
-    pub own-fits : fits (binsAt s (own .bins) (own .ranges) (own .count)) ≡ true
-    unfolding fits
-    own-fits = part-all s p binFits (l .bins) (l .ranges) (l .«bin_count») (own .bins) (own .ranges) (own .count) part (places-ready s ok p inside l e .3)
-
-    module _ (low : ℕ) (has : Bool) (el : low ≡ lowest (pointRecord s (l .points + 11 * p))) (eh : has ≡ hasAutoAt s p (own .bins) (own .count) (l .transitions) (l .«transition_count»)) where
+    module _ (low : ℕ) (has : Bool) (m : ℕ) (el : low ≡ lowest (pointRecord s (l .points + 11 * p))) (eh : has ≡ hasAutoAt s p (own .bins) (own .count) (l .transitions) (l .«transition_count»))
+        (em : m ≡ autosOf has (pointRecord s (l .points + 11 * p))) where
       auto-same : has ≡ hasAutoAt s p (recordsPlace s 1) (recordCount s 1) (recordsPlace s 3) (recordCount s 3)
       unfolding layoutOf
       auto-same =
           eh ∙ part-auto s p (l .bins) (l .ranges) (l .«bin_count») (own .bins) (own .ranges) (own .count) part (l .transitions) (l .«transition_count»)
           ∙ ap (λ (x : Layout). hasAutoAt s p (x .bins) (x .«bin_count») (x .transitions) (x .«transition_count»)) e
 
+      autos-same : m ≡ autosOf (hasAutoAt s p (recordsPlace s 1) (recordCount s 1) (recordsPlace s 3) (recordCount s 3)) (pointAt (tableOf s) p)
+      autos-same = em ∙ ap₂ autosOf auto-same (sym (record-is s ok p inside l e))
+
       low-same : low ≡ lowest (pointAt (tableOf s) p)
       low-same = el ∙ ap lowest (sym (record-is s ok p inside l e))
 
       pub kind-parts : kindsOf (pointCounters (tableOf s) p)
-          ≡ (kindsIn low p (binsAt s (own .bins) (own .ranges) (own .count)) ++ autoPart has false low (pointRecord s (l .points + 11 * p))) ++ transitionKindsFrom s p (l .transitions) 0 (l .«transition_count»)
+          ≡ (kindsIn low p (binsAt s (own .bins) (own .ranges) (own .count)) ++ replicate m 0) ++ transitionKindsFrom s p (l .transitions) 0 (l .«transition_count»)
       unfolding layoutOf
       kind-parts =
           raw-kinds
@@ -178,18 +173,17 @@ module _ (s : List ℕ) (ok : accepted s ≡ true) (p : ℕ) (inside : p < point
           (ap₂ _++_
           (ap (λ (v : ℕ). kindsIn v p (binsAt s (own .bins) (own .ranges) (own .count))) low-same
           ∙ part-kinds s (lowest (pointAt (tableOf s) p)) p (recordsPlace s 1) (recordsPlace s 2) (recordCount s 1) (own .bins) (own .ranges) (own .count) o)
-          (ap₂ (λ (b : Bool) (v : ℕ). autoPart b false v (pointRecord s (l .points + 11 * p))) auto-same low-same
-          ∙ ap (autoPart (hasAutoAt s p (recordsPlace s 1) (recordCount s 1) (recordsPlace s 3) (recordCount s 3)) false (lowest (pointAt (tableOf s) p))) (sym (record-is s ok p inside l e))))
+          (ap (λ (k : ℕ). replicate k 0) autos-same))
           (ap (λ (x : Layout). transitionKindsFrom s p (x .transitions) 0 (x .«transition_count»)) e))
 
       -- the three parts are no more than 256 together
-      pub kind-room : length (kindsIn low p (binsAt s (own .bins) (own .ranges) (own .count))) + length (autoPart has false low (pointRecord s (l .points + 11 * p))) + length (transitionKindsFrom s p (l .transitions) 0 (l .«transition_count»)) ≤ 256
+      pub kind-room : length (kindsIn low p (binsAt s (own .bins) (own .ranges) (own .count))) + m + length (transitionKindsFrom s p (l .transitions) 0 (l .«transition_count»)) ≤ 256
       unfolding kindsOf
       kind-room =
           let xs = kindsIn low p (binsAt s (own .bins) (own .ranges) (own .count)) in
-          let ys = autoPart has false low (pointRecord s (l .points + 11 * p)) in
+          let ys = replicate {A = ℕ} m 0 in
           let zs = transitionKindsFrom s p (l .transitions) 0 (l .«transition_count») in
-          omega (arith, ap length kind-parts, length-append (xs ++ ys) zs, length-append xs ys, length-map (pointCounters (tableOf s) p) kindOf, few-here s ok p inside)
+          omega (arith, ap length kind-parts, length-append (xs ++ ys) zs, length-append xs ys, length-replicate {A = ℕ} m 0, length-map (pointCounters (tableOf s) p) kindOf, few-here s ok p inside)
 
 -- three writes in a row
 pub all-written : (cur c d e : ℕ) (xs ys zs whole l l₁ l₂ l₃ : List ℕ) → whole ≡ (xs ++ ys) ++ zs → cur + length whole ≤ length l → c ≡ cur + length xs → l₁ ≡ put cur xs l → d ≡ c + length ys → l₂ ≡ put c ys l₁

@@ -1,15 +1,16 @@
 -- Laws for the code over kinds of counters.
 -- Assumes nothing.
 use mathlib.Core.Path.{_≡_, refl, sym, ap, _∙_}
-use mathlib.Core.Bool.{Bool, false, cond}
+use mathlib.Core.Bool.{Bool, cond}
 use mathlib.Core.List.{List, [], _∷_, _++_}
 use Prim.Native.Nat.{ℕ, zero, suc, _+_, _-_, _*_, _≤_, _<_}
 use native.Mathlib.Omega.{arith}
+use lib.ListN.{replicate}
 use borrow.Author.Tests.{eq-eqb, ne-eqb}
 use Rattle.model.specs.Format.{byte, u16, kindFrom}
 use Rattle.model.specs.Raw.{binAt, binsAt}
 use Rattle.model.proofs.Lists.{one-left, none-left}
-use Rattle.values.specs.Flags.{coverFlags}
+use Rattle.values.specs.Counts.{coverCount}
 use Rattle.values.proofs.Laws.{bins-step, bins-end}
 use Rattle.points.specs.Kinds.{kindsBy, plainKind, binKinds, kindsIn, transitionKind, transitionKinds, transitionKindsFrom}
 
@@ -34,7 +35,7 @@ module _ (low p : ℕ) (s : List ℕ) (a r q : ℕ) (eq : q ≡ byte s a) where
     pub ignore-bin : k ≡ 1 → binKinds low p (binAt s a r) ≡ []
     ignore-bin e = this-bin ∙ ap (λ (z : ℕ). kindsBy low (kindFrom z) (binAt s a r)) e
 
-    pub cover-bin : k ≡ 0 → binKinds low p (binAt s a r) ≡ coverFlags low low false (binAt s a r .form) (binAt s a r .ranges)
+    pub cover-bin : k ≡ 0 → binKinds low p (binAt s a r) ≡ replicate (coverCount low (binAt s a r .form) (binAt s a r .ranges)) 0
     cover-bin e = this-bin ∙ ap (λ (z : ℕ). kindsBy low (kindFrom z) (binAt s a r)) e
 
     pub plain-bin : (x : ℕ) → (k ≡ 0 → ⊥) → (k ≡ 1 → ⊥) → x ≡ plainKind k → binKinds low p (binAt s a r) ≡ x ∷ []

@@ -7,14 +7,12 @@ use Prim.Native.Nat.{ℕ, _+_, _-_, _*_, _^_, _≤_, _<_}
 use native.Mathlib.Omega.{arith}
 use lib.Dec.{eqb}
 use lib.ListN.{length, replicate, length-map}
-use lib.Pow.{pow-pos}
 use Rattle.model.specs.Lists.{asBit}
 use Rattle.model.specs.Table.{Point}
 use Rattle.model.specs.Values.{readValue, lowest, highest}
 use Rattle.model.specs.Counters.{pointAt, valueCounters, autoCounters}
 use Rattle.model.specs.Sampling.{Reading, skipped, unknown, known, valueWord, unknownWord, guardTrue, reading, isIn, hits}
-use Rattle.model.specs.Format.{u16, pointRecord, accepted, tableOf}
-use Rattle.model.specs.Raw.{binsAt}
+use Rattle.model.specs.Format.{pointRecord, accepted, tableOf}
 use Rattle.model.specs.Register.{pointTotal, inWidths, runStretches}
 use Rattle.model.proofs.WellFormed.{well-formed}
 use Rattle.model.proofs.TableExact.{point-at, read-low, read-high}
@@ -23,10 +21,9 @@ use Rattle.ranges.specs.Types.{Wide}
 use Rattle.layout.specs.declared.Layout.{Layout}
 use Rattle.layout.specs.Places.{layoutOf}
 use Rattle.arrays.specs.Flat.{hitFlags, readingCode}
-use Rattle.values.specs.Flags.{fits}
 use Rattle.values.specs.Points.{Near}
 use Rattle.values.proofs.PointExact.{point-raw}
-use Rattle.values.proofs.Ready.{all-near, all-fit, wide, some-auto, read-top}
+use Rattle.values.proofs.Ready.{all-near, wide, read-top}
 use Rattle.points.specs.Hits.{valueHits}
 use Rattle.points.proofs.ReadingLaws.{value-in}
 use Rattle.points.proofs.Counted.{no-hits}
@@ -45,29 +42,27 @@ known-only false b x v e = absurd (let z : _≡_ {A = ℕ} 0 1 = cc in omega ari
 
 -- ---- the places of a layout
 
-low-top : (x : Point) → (lowest x < 2 ^ 60) × (lowest x ≤ lowest x) × (lowest x ≤ highest x)
-low-top x = (go (x .signed), omega arith, omega (arith, pow-pos (x .width)))
+low-top : (x : Point) → lowest x ≤ 8589934592
+low-top x = go (x .signed)
   where
-    go : (b : Bool) → cond b (2147483648 - 2 ^ (x .width - 1)) 2147483648 < 2 ^ 60
+    go : (b : Bool) → cond b (2147483648 - 2 ^ (x .width - 1)) 2147483648 ≤ 8589934592
     go true = omega arith
     go false = omega arith
 
 module _ (s : List ℕ) (ok : accepted s ≡ true) (p : ℕ) (inside : p < pointTotal (tableOf s)) (l : Layout) (e : l ≡ layoutOf s) where
-  pub places-ready : Near (l .points + 11 * p) (l .bins) (l .ranges) (l .«bin_count») (l .transitions) (l .«transition_count») × Wide s (l .points + 11 * p) × (1 ≤ u16 s (l .points + 11 * p + 9))
-      × (fits (binsAt s (l .bins) (l .ranges) (l .«bin_count»)) ≡ true)
+  pub places-ready : Near (l .points + 11 * p) (l .bins) (l .ranges) (l .«bin_count») (l .transitions) (l .«transition_count») × Wide s (l .points + 11 * p)
   unfolding layoutOf
   places-ready =
       let t = tableOf s in
       let d = accepted-decodes s ok in
-      subst (λ (x : Layout). Near (x .points + 11 * p) (x .bins) (x .ranges) (x .«bin_count») (x .transitions) (x .«transition_count») × Wide s (x .points + 11 * p) × (1 ≤ u16 s (x .points + 11 * p + 9))
-      × (fits (binsAt s (x .bins) (x .ranges) (x .«bin_count»)) ≡ true)) (sym e)
-      (all-near s t d p inside, wide s t d p inside, some-auto s t d p inside, all-fit s t d p inside)
+      subst (λ (x : Layout). Near (x .points + 11 * p) (x .bins) (x .ranges) (x .«bin_count») (x .transitions) (x .«transition_count») × Wide s (x .points + 11 * p)) (sym e)
+      (all-near s t d p inside, wide s t d p inside)
 
   pub record-is : pointAt (tableOf s) p ≡ pointRecord s (l .points + 11 * p)
   unfolding layoutOf
   record-is = point-raw s (tableOf s) (accepted-decodes s ok) p inside ∙ sym (ap (λ (x : Layout). pointRecord s (x .points + 11 * p)) e)
 
-  pub low-ready : (low : ℕ) → low ≡ lowest (pointRecord s (l .points + 11 * p)) → (low < 2 ^ 60) × (lowest (pointRecord s (l .points + 11 * p)) ≤ low) × (low ≤ highest (pointRecord s (l .points + 11 * p)))
+  pub low-ready : (low : ℕ) → low ≡ lowest (pointRecord s (l .points + 11 * p)) → low ≤ 8589934592
   low-ready low z = rw z (low-top (pointRecord s (l .points + 11 * p)))
 
 -- ---- a known value is of the type; no other reading hits

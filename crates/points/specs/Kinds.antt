@@ -2,18 +2,19 @@
 -- Assumes nothing.
 use Prim.Native.Nat.{ℕ, zero, suc, _+_, _*_}
 use mathlib.Core.Path.{_≡_}
-use mathlib.Core.Bool.{true, false, cond}
+use mathlib.Core.Bool.{true, cond}
 use mathlib.Core.List.{List, [], _∷_, _++_}
 use lib.Dec.{eqb}
+use lib.ListN.{replicate}
 use Rattle.model.specs.Table.{Kind, cover, ignore, illegal, default, ValueBin}
 use Rattle.model.specs.Format.{byte, kindFrom, accepted}
 use Rattle.layout.specs.declared.Layout.{Layout}
 use Rattle.layout.specs.Places.{layoutOf}
-use Rattle.values.specs.Flags.{coverFlags}
+use Rattle.values.specs.Counts.{coverCount}
 
--- the counters of a value bin: a 0 for each bin that a cover bin stands for, which are the flags of a reading that hits none
+-- the counters of a value bin: a 0 for each bin that a cover bin stands for
 abbrev pub kindsBy : ℕ → Kind → ValueBin → List ℕ
-kindsBy low cover u = coverFlags low low false (u .form) (u .ranges)
+kindsBy low cover u = replicate (coverCount low (u .form) (u .ranges)) 0
 kindsBy low ignore u = []
 kindsBy low illegal u = 2 ∷ []
 kindsBy low default u = 1 ∷ []

@@ -7,12 +7,10 @@ use Prim.Native.Nat.{ℕ, zero, suc, _+_, _-_, _*_, _≤_, _<_}
 use native.Mathlib.Omega.{arith}
 use lib.Dec.{eqb, leb, ltb}
 use borrow.Author.Tests.{ltb-true, ltb-false, ne-eqb}
-use Rattle.model.specs.Lists.{all}
 use Rattle.model.specs.Table.{Kind, ValueBin, excludes}
 use Rattle.model.specs.Format.{byte, u16}
 use Rattle.model.specs.Ranges.{rangesOf}
 use Rattle.model.specs.Raw.{binAt, binsAt, recordsPlace, recordCount}
-use Rattle.model.proofs.Booleans.{and-left, and-right}
 use Rattle.layout.specs.Places.{layoutOf, binSectionsOf}
 use Rattle.layout.specs.declared.BinSections.{BinSections}
 use Rattle.ranges.specs.Taken.{excludedAt}
@@ -180,27 +178,3 @@ module _ (s : List ℕ) (p : ℕ) where
 
   pub part-auto : (a r n b q m : ℕ) → PartOf s p a r n b q m → (t k : ℕ) → hasAutoAt s p b m t k ≡ hasAutoAt s p a n t k
   part-auto a r n b q m o t k = ap (λ (c : Bool). not c && not (someOwn s p false 4 t k)) (part-some a r n b q m o)
-
-  -- what holds of each bin
-  all-skip : (f : ValueBin → Bool) (k m a r n : ℕ) → n ≡ k + m → all f (binsAt s a r n) ≡ true → all f (binsAt s (a + 8 * k) (rangesPast s a r k) m) ≡ true
-  unfolding all binsAt rangesPast
-  all-skip f zero m a r n e h = ap₂ (λ (x y : ℕ). all f (binsAt s x r y)) (let z : a + 8 * 0 ≡ a = omega arith in z) (let z : m ≡ n = omega arith in z) ∙ h
-  all-skip f (suc k) m a r zero e h = absurd (omega arith)
-  all-skip f (suc k) m a r (suc n) e h =
-      ap (λ (x : ℕ). all f (binsAt s x (rangesPast s (a + 8) (r + 17 * u16 s (a + 6)) k) m)) (let z : a + 8 * suc k ≡ a + 8 + 8 * k = omega arith in z)
-      ∙ all-skip f k m (a + 8) (r + 17 * u16 s (a + 6)) n (omega arith) (and-right (f (binAt s a r)) (all f (binsAt s (a + 8) (r + 17 * u16 s (a + 6)) n)) h)
-
-  all-trim : (f : ValueBin → Bool) (m n a r : ℕ) → m ≤ n → all f (binsAt s a r n) ≡ true → all f (binsAt s a r m) ≡ true
-  unfolding all binsAt
-  all-trim f zero n a r e h = refl
-  all-trim f (suc m) zero a r e h = absurd (omega arith)
-  all-trim f (suc m) (suc n) a r e h =
-      let here = f (binAt s a r) in
-      let rest = all f (binsAt s (a + 8) (r + 17 * u16 s (a + 6)) n) in
-      ap (_&& all f (binsAt s (a + 8) (r + 17 * u16 s (a + 6)) m)) (and-left here rest h) ∙ all-trim f m n (a + 8) (r + 17 * u16 s (a + 6)) (omega arith) (and-right here rest h)
-
-  pub part-all : (f : ValueBin → Bool) (a r n b q m : ℕ) → PartOf s p a r n b q m → all f (binsAt s a r n) ≡ true → all f (binsAt s b q m) ≡ true
-  part-all f a r n b q m o h =
-      let k = o .skipped in
-      ap₂ (λ (x y : ℕ). all f (binsAt s x y m)) (o .place) (o .ranges)
-      ∙ all-trim f m (n - k) (a + 8 * k) (rangesPast s a r k) (omega (arith, o .few)) (all-skip f k (n - k) a r n (omega (arith, o .few)) h)

@@ -1,15 +1,14 @@
 -- The bins of each point, found in one pass over all bins.
 -- Assumes nothing.
-use mathlib.Core.Path.{_≡_, refl, sym, ap, ap₂, _∙_, subst}
+use mathlib.Core.Path.{_≡_, refl, sym, ap, _∙_, subst}
 use mathlib.Core.Bool.{Bool, true, false, cond}
 use mathlib.Core.List.{List}
 use Prim.Native.Nat.{ℕ, zero, suc, _+_, _-_, _*_, _/_, _≤_, _<_}
 use native.Mathlib.Omega.{arith}
-use lib.Dec.{eqb}
+use lib.Dec.{eqb, ltb}
 use lib.ListN.{length, getD, set, replicate, length-set}
 use lib.Seq.{getD-set-same, getD-set-other}
-use borrow.Author.Tests.{eqb-true, eqb-false, ltb-true, ltb-false, ne-eqb}
-use lib.Dec.{ltb}
+use borrow.Author.Tests.{eqb-true, eqb-false, ltb-true, ltb-false}
 use Rattle.model.specs.Format.{byte, u16, binRules, accepted, tableOf}
 use Rattle.model.specs.Raw.{countPlace, recordsPlace, recordCount}
 use Rattle.model.proofs.Sections.{accepted-layout}
@@ -17,7 +16,9 @@ use Rattle.model.proofs.Access.{points-access, bins-access}
 use Rattle.model.proofs.RawExact.{next-place, few-points}
 use Rattle.layout.specs.Places.{layoutOf, binSectionsOf, SmallBins}
 use Rattle.layout.specs.declared.BinSections.{BinSections}
-use Rattle.spans.specs.Part.{Other, OthersFrom, OthersTo, rangesPast, PartOf, OwnParts, kept}
+use Rattle.spans.specs.Part.{Other, OthersFrom, OthersTo, rangesPast, PartOf, OwnBins, OwnParts, kept, partOf}
+use Rattle.spans.specs.declared.collects.Bins.{Bins}
+use Rattle.spans.specs.declared.part.Parts.{Parts}
 use Rattle.spans.proofs.Point.{bins-many, bins-most}
 use Rattle.spans.proofs.PartLaws.{other-at, bins-few}
 
@@ -197,3 +198,7 @@ module _ (s : List ℕ) (ok : accepted s ≡ true) where
           nearRanges = omega (arith, small .ranges, o .near, o .few, few-bins);
           few = omega (arith, o .few, few-bins);
         }
+
+-- those of one point
+pub own-bins : (s : List ℕ) (x : Parts) (p : ℕ) (own : Bins) → OwnParts s x → p < 16 → own ≡ partOf x p → OwnBins s p own
+own-bins s x p own o h e = subst (OwnBins s p) (sym e) (o p h)

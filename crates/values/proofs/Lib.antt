@@ -1,9 +1,7 @@
 pub mod Laws
 pub mod Listing
-pub mod Fixed
-pub mod Dealt
-pub mod NextLaws
-pub mod FlagsExact
+pub mod CountLaws
+pub mod CountExact
 pub mod PointLaws
 pub mod PointExact
 pub mod ValueLaws

@@ -15,7 +15,7 @@ use Rattle.model.specs.Values.{inRange, inRanges}
 use Rattle.model.specs.Format.{byte, u16, rangeRecord}
 use Rattle.model.specs.Raw.{rows, rangesAt, binAt, binsAt}
 use Rattle.model.proofs.RawValues.{length-bins}
-use Rattle.values.specs.Flags.{lists, listedIn, firstListing}
+use Rattle.values.specs.Listed.{lists, listedIn, firstListing}
 use Rattle.values.proofs.Laws.{bins-step, bins-end, ranges-start, ranges-step, row-end}
 
 -- ---- the search by places

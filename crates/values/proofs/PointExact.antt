@@ -1,30 +1,24 @@
--- The flags of a point over the bytes of an accepted table are the model's hits of its value and auto counters.
+-- The points, value bins and auto bins of an accepted table, by their places.
 -- Assumes nothing.
 use mathlib.Core.Path.{_≡_, refl, sym, ap, ap₂, _∙_}
 use mathlib.Core.Bool.{Bool, true, false, not, _&&_, _||_}
-use mathlib.Core.List.{List, _++_, map-append}
+use mathlib.Core.List.{List, _++_}
 use Prim.Native.Nat.{ℕ, zero, suc, _+_, _*_, _≤_, _<_}
 use native.Mathlib.Omega.{arith}
 use lib.Dec.{leb, eqb}
 use lib.ListN.{length, getD, length-append}
 use borrow.Author.Tests.{leb-true, le-leb, ne-eqb}
-use Rattle.model.specs.Lists.{upFrom, any, all, asBit}
-use Rattle.model.specs.Table.{Point, ValueBin, Table, isCover, isDefault, noPoint}
-use Rattle.model.specs.Values.{lowest}
-use Rattle.model.specs.Counters.{Counter, pointAt, hasAuto, valueCounters, autoCounters, transitionCounters, pointCounters, productCount, withinLimits}
-use Rattle.model.specs.Sampling.{known, reading, Stretches, hits}
+use Rattle.model.specs.Lists.{upFrom, any, all}
+use Rattle.model.specs.Table.{Point, Table, isCover, isDefault, noPoint}
+use Rattle.model.specs.Counters.{pointAt, hasAuto, valueCounters, autoCounters, transitionCounters, pointCounters, productCount, withinLimits}
 use Rattle.model.specs.Format.{byte, kindFrom, pointRecord, decode, decoded}
 use Rattle.model.specs.Raw.{binsAt, transitionsAt, recordCount, recordsPlace, rawTable}
 use Rattle.model.proofs.Booleans.{and-left}
 use Rattle.model.proofs.Sections.{acceptance}
-use Rattle.model.proofs.WellFormed.{WellFormed, well-formed}
 use Rattle.model.proofs.Limits.{all-from}
 use Rattle.model.proofs.RawLaws.{length-rows, getD-rows}
 use Rattle.model.proofs.RawExact.{raw-exact}
-use Rattle.values.specs.Flags.{hit, flagsIn, excludedIn, listedIn}
-use Rattle.arrays.specs.Flat.{hitFlags}
-use Rattle.values.specs.Points.{someOwn, hasAutoAt, autoPart, pointFlags}
-use Rattle.values.proofs.FlagsExact.{flags-exact, auto-hits}
+use Rattle.values.specs.Points.{someOwn, hasAutoAt}
 
 -- ---- which bins keep a point from having auto bins
 
@@ -57,10 +51,6 @@ auto-raw s p =
     (own-bins s p (recordsPlace s 1) (recordsPlace s 2) (recordCount s 1))
     (own-transitions s p (recordsPlace s 3) (recordsPlace s 4) (recordsPlace s 5) (recordsPlace s 6) (recordCount s 3))
 
-pub hit-append : (t : Table) (w : List ℕ) (m : Stretches) (xs ys : List Counter) → hitFlags t w m (xs ++ ys) ≡ hitFlags t w m xs ++ hitFlags t w m ys
-unfolding hitFlags
-hit-append t w m xs ys = map-append (λ c. asBit (hits t w m c)) xs ys
-
 -- ---- the point's record, and the bins
 
 module _ (s : List ℕ) (t : Table) (e : decode s ≡ decoded t) (p : ℕ) (inside : p < length (t .points)) where
@@ -89,21 +79,3 @@ module _ (s : List ℕ) (t : Table) (e : decode s ≡ decoded t) (p : ℕ) (insi
       let others = transitionCounters p 0 (t .transitionBins) in
       let few : length ((mine ++ autoCounters t p) ++ others) ≤ 256 = few-counters in
       omega (arith, length-append (mine ++ autoCounters t p) others, length-append mine (autoCounters t p))
-
-  -- The flags that the code writes for a known reading are the model's hits.
-  pub point-exact : (w : List ℕ) (m : Stretches) (v : ℕ) → reading t w p ≡ known v
-      → hitFlags t w m (valueCounters t p 0 (t .valueBins) ++ autoCounters t p)
-      ≡ pointFlags s (recordsPlace s 0 + 11 * p) (recordsPlace s 1) (recordsPlace s 2) (recordCount s 1) (recordsPlace s 3) (recordCount s 3) w p v
-  unfolding pointFlags
-  point-exact w m v k =
-      hit-append t w m (valueCounters t p 0 (t .valueBins)) (autoCounters t p)
-      ∙ ap₂ _++_
-      (flags-exact t ok w m p v k few-values
-      ∙ ap₂ (λ (x : Point) (bs : List ValueBin). flagsIn (hit w (lowest x) v (excludedIn p v bs) (listedIn p v bs)) p bs) point-raw bins-raw)
-      (auto-hits t ok w m p v k
-      ∙ ap₂ (λ (x : Point) (bs : List ValueBin). autoPart (hasAuto t p) (not (excludedIn p v bs)) v x) point-raw bins-raw
-      ∙ ap (λ (b : Bool). autoPart b (not (excludedIn p v (binsAt s (recordsPlace s 1) (recordsPlace s 2) (recordCount s 1)))) v (pointRecord s (recordsPlace s 0 + 11 * p)))
-      (ap (λ (u : Table). hasAuto u p) (raw-exact s t e) ∙ auto-raw s p))
-    where
-      ok : WellFormed t
-      ok = well-formed s t e

@@ -1,23 +1,20 @@
 -- Laws for the auto bins of a point.
 -- Assumes nothing.
 use mathlib.Core.Path.{_≡_, sym, ap, ap₂, _∙_}
-use mathlib.Core.Bool.{Bool, true, false, not, _&&_, _||_}
-use mathlib.Core.List.{List, [], _++_}
+use mathlib.Core.Bool.{Bool, true, false, _&&_, _||_}
+use mathlib.Core.List.{List}
 use Prim.Native.Nat.{ℕ, _+_, _-_, _^_, _≤_, _<_, min}
 use lib.Dec.{leb, eqb}
-use lib.ListN.{length, length-append}
 use borrow.Author.Needs.{needs}
 use Rattle.model.specs.Table.{Point}
 use Rattle.model.specs.Values.{lowest, highest}
 use Rattle.model.specs.Counters.{autoCount}
 use Rattle.model.specs.Format.{byte, u16, pointRecord}
+use Rattle.model.proofs.Lists.{none-left, one-left}
 use Rattle.ranges.specs.Types.{powerOf, lowestOf}
 use Rattle.ranges.proofs.RangeLaws.{low-record}
-use Rattle.model.specs.Raw.{binsAt}
-use Rattle.model.proofs.Lists.{none-left, one-left}
-use Rattle.values.specs.Flags.{hit, flagsIn, excludedIn, listedIn, autoFlags}
-use Rattle.values.specs.Points.{isOwn, someOwn, hasAutoAt, autoPart, pointFlags}
-use Rattle.values.proofs.Laws.{length-fixed}
+use Rattle.values.specs.Counts.{autosOf}
+use Rattle.values.specs.Points.{isOwn, someOwn}
 
 module _ (s : List ℕ) (p : ℕ) (defaults : Bool) (size n at i : ℕ) (x : Bool) (inv : x ≡ someOwn s p defaults size at (n - i)) where
   own-step : i < n → x ≡ (isOwn s p defaults at || someOwn s p defaults size (at + size) (n - (i + 1)))
@@ -42,43 +39,29 @@ pub ruleset owns = (needs, own-done, own-found, own-on)
 
 -- ---- the type of a point's record
 
+power-is : (s : List ℕ) (point width all : ℕ) → width ≡ byte s point → all ≡ powerOf width → all ≡ 2 ^ byte s point
+unfolding powerOf
+power-is s point width all ew ea = ea ∙ ap powerOf ew
+
+pub auto-number : (s : List ℕ) (point width all most number : ℕ) → width ≡ byte s point → all ≡ powerOf width → most ≡ u16 s (point + 9) → number ≡ min all most → number ≡ autoCount (pointRecord s point)
+auto-number s point width all most number ew ea em en = en ∙ ap₂ min (power-is s point width all ew ea) em
+
 module _ (s : List ℕ) (point width sign low all number most : ℕ) (ew : width ≡ byte s point) (es : sign ≡ byte s (point + 1)) (el : low ≡ lowestOf width (eqb sign 1)) (ea : all ≡ powerOf width)
     (em : most ≡ u16 s (point + 9)) (en : number ≡ min all most) where
   pub low-is : low ≡ lowest (pointRecord s point)
   low-is = low-record s point width sign low ew es el
 
-  power-is : all ≡ 2 ^ byte s point
-  unfolding powerOf
-  power-is = ea ∙ ap powerOf ew
-
   pub high-is : low + all - 1 ≡ highest (pointRecord s point)
-  high-is = ap₂ (λ (x y : ℕ). x + y - 1) low-is power-is
+  high-is = ap₂ (λ (x y : ℕ). x + y - 1) low-is (power-is s point width all ew ea)
 
   pub number-is : number ≡ autoCount (pointRecord s point)
-  number-is = en ∙ ap₂ min power-is em
+  number-is = auto-number s point width all most number ew ea em en
 
-  pub auto-part : (has live : Bool) (v : ℕ) → has ≡ true → autoPart has live v (pointRecord s point) ≡ autoFlags live v number low (low + all - 1)
-  auto-part has live v e =
-      ap (λ (b : Bool). autoPart b live v (pointRecord s point)) e
-      ∙ ap (λ (m : ℕ). autoFlags live v m (lowest (pointRecord s point)) (highest (pointRecord s point))) (sym number-is)
-      ∙ ap₂ (autoFlags live v number) (sym low-is) (sym high-is)
+-- ---- how many auto bins
 
-  pub auto-length : (has live : Bool) (v : ℕ) → has ≡ true → length (autoPart has live v (pointRecord s point)) ≡ number
-  auto-length has live v e = ap length (auto-part has live v e) ∙ length-fixed live v number _
+module _ (has : Bool) (p : Point) (n : ℕ) where
+  pub no-autos : has ≡ false → 0 ≡ autosOf has p
+  no-autos e = sym (ap (λ (b : Bool). autosOf b p) e)
 
-pub no-auto : (has live : Bool) (v : ℕ) (p : Point) → has ≡ false → autoPart has live v p ≡ []
-no-auto has live v p e = ap (λ (b : Bool). autoPart b live v p) e
-
--- ---- both parts, one after the other
-
-module _ (s w : List ℕ) (point a r n b k p v low : ℕ) (x l has : Bool) (ex : x ≡ excludedIn p v (binsAt s a r n)) (el : l ≡ listedIn p v (binsAt s a r n)) (eh : has ≡ hasAutoAt s p a n b k)
-    (ew : low ≡ lowest (pointRecord s point)) where
-  pub point-parts : pointFlags s point a r n b k w p v ≡ flagsIn (hit w low v x l) p (binsAt s a r n) ++ autoPart has (not x) v (pointRecord s point)
-  unfolding pointFlags
-  point-parts =
-      sym (ap₂ _++_
-      (ap (λ (z : ℕ). flagsIn (hit w z v x l) p (binsAt s a r n)) ew ∙ ap₂ (λ (y z : Bool). flagsIn (hit w (lowest (pointRecord s point)) v y z) p (binsAt s a r n)) ex el)
-      (ap₂ (λ (y z : Bool). autoPart y (not z) v (pointRecord s point)) eh ex))
-
-  pub point-length : length (pointFlags s point a r n b k w p v) ≡ length (flagsIn (hit w low v x l) p (binsAt s a r n)) + length (autoPart has (not x) v (pointRecord s point))
-  point-length = ap length point-parts ∙ length-append (flagsIn (hit w low v x l) p (binsAt s a r n)) (autoPart has (not x) v (pointRecord s point))
+  pub some-autos : has ≡ true → n ≡ autoCount p → n ≡ autosOf has p
+  some-autos e en = en ∙ sym (ap (λ (b : Bool). autosOf b p) e)

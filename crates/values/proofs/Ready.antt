@@ -1,48 +1,28 @@
--- What the code asks of a table's places, ranges and readings, and an accepted table grants.
+-- What the code asks of a table's places and readings, and an accepted table grants.
 -- Assumes nothing.
-use mathlib.Core.Path.{_≡_, refl, sym, ap, ap₂, _∙_, subst}
+use mathlib.Core.Path.{_≡_, refl, ap, _∙_, subst}
 use mathlib.Core.Bool.{Bool, true, false, _&&_, cond}
-use mathlib.Core.List.{List, [], _∷_}
-use Prim.Native.Nat.{ℕ, suc, _+_, _-_, _*_, _^_, _≤_, _<_}
+use mathlib.Core.List.{List}
+use Prim.Native.Nat.{ℕ, _+_, _-_, _*_, _^_, _≤_, _<_}
 use native.Mathlib.Omega.{arith}
 use lib.Dec.{leb}
 use lib.ListN.{length}
 use lib.Pow.{pow-mono}
-use borrow.Author.Tests.{leb-true, leb-false, lt-ltb}
-use Rattle.model.specs.Lists.{all}
-use Rattle.model.specs.Table.{Point, Range, span, pattern, ValueBin, Table}
+use borrow.Author.Tests.{leb-true, leb-false}
+use Rattle.model.specs.Table.{Point, Table}
 use Rattle.model.specs.Values.{bias, readValue, highest}
-use Rattle.model.specs.Counters.{pointAt}
-use Rattle.model.specs.Format.{u16, pointRecord, allowsPatterns, decode, decoded}
-use Rattle.model.specs.Raw.{countPlace, binsAt, recordCount, recordsPlace, rawTable}
-use Rattle.model.proofs.Readers.{All}
+use Rattle.model.specs.Format.{u16, pointRecord, decode, decoded}
+use Rattle.model.specs.Raw.{countPlace, recordCount, recordsPlace, rawTable}
 use Rattle.model.proofs.Sections.{acceptance}
 use Rattle.model.proofs.Access.{bins-access}
-use Rattle.model.proofs.WellFormed.{GoodPoint, Legal, GoodBin, WellFormed, well-formed}
+use Rattle.model.proofs.WellFormed.{GoodPoint, well-formed}
 use Rattle.model.proofs.TableExact.{point-at, pow-half}
 use Rattle.model.proofs.RawLaws.{length-rows}
 use Rattle.model.proofs.RawExact.{next-place, raw-exact, sections-whole}
 use Rattle.model.proofs.RawValues.{length-bins}
 use Rattle.ranges.specs.Types.{Wide}
-use Rattle.values.specs.Flags.{smallRange, binFits, fits}
 use Rattle.values.specs.Points.{Near}
-use Rattle.values.proofs.PointExact.{point-raw}
-use Rattle.values.proofs.PointExact.{bins-raw}
-
--- ---- ranges
-
-small-legal : (p : Point) (patterns : Bool) → GoodPoint p → (rs : List Range) → All (Legal p patterns) rs → all smallRange rs ≡ true
-unfolding all
-small-legal p patterns g [] h = refl
-small-legal p patterns g (span lo hi ∷ rs) h =
-    ap₂ _&&_ (lt-ltb (suc hi - lo) (2 ^ 33) (omega (arith, h .0 .0, h .0 .2, pow-mono {i = p .width} {j = 32} (g .narrow)))) (small-legal p patterns g rs (h .1))
-small-legal p patterns g (pattern bits mask ∷ rs) h = ap₂ _&&_ (lt-ltb 0 (2 ^ 33) (omega arith)) (small-legal p patterns g rs (h .1))
-
-module _ (t : Table) (ok : WellFormed t) where
-  good-fits : (bs : List ValueBin) → All (GoodBin (t .points)) bs → fits bs ≡ true
-  unfolding fits all binFits
-  good-fits [] h = refl
-  good-fits (b ∷ bs) h = ap₂ _&&_ (small-legal (pointAt t (b .point)) (allowsPatterns b) (point-at t ok (b .point)) (b .ranges) (h .0)) (good-fits bs (h .1))
+use Rattle.values.proofs.PointExact.{point-raw, bins-raw}
 
 -- ---- readings
 
@@ -60,7 +40,7 @@ read-top p g bits h = go (p .signed) (leb (2 ^ (p .width - 1)) bits) refl
 -- ---- places
 
 module _ (s : List ℕ) (t : Table) (e : decode s ≡ decoded t) (p : ℕ) (inside : p < length (t .points)) where
-  pub many : length (t .points) ≡ recordCount s 0
+  many : length (t .points) ≡ recordCount s 0
   unfolding rawTable
   many = ap (λ (u : Table). length (u .points)) (raw-exact s t e) ∙ length-rows (pointRecord s) 11 (recordsPlace s 0) (recordCount s 0)
 
@@ -89,10 +69,7 @@ module _ (s : List ℕ) (t : Table) (e : decode s ≡ decoded t) (p : ℕ) (insi
         few-transitions = omega arith;
       }
 
-  pub all-fit : fits (binsAt s (recordsPlace s 1) (recordsPlace s 2) (recordCount s 1)) ≡ true
-  all-fit = ap fits (sym (bins-raw s t e p inside)) ∙ good-fits t (well-formed s t e) (t .valueBins) (well-formed s t e .bins)
-
-  pub good-record : GoodPoint (pointRecord s (recordsPlace s 0 + 11 * p))
+  good-record : GoodPoint (pointRecord s (recordsPlace s 0 + 11 * p))
   good-record = subst GoodPoint (point-raw s t e p inside) (point-at t (well-formed s t e) p)
 
   pub wide : Wide s (recordsPlace s 0 + 11 * p)

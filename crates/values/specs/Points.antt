@@ -1,15 +1,10 @@
--- The flags of a point's value bins and auto bins, by the places of its table.
+-- Whether a point has auto bins, by the places of its table.
 -- Assumes nothing.
 use Prim.Native.Nat.{ℕ, zero, suc, _+_, _≤_, _<_}
-use mathlib.Core.Bool.{Bool, true, false, not, _&&_, _||_, cond}
-use mathlib.Core.List.{List, [], _++_}
+use mathlib.Core.Bool.{Bool, false, true, not, _&&_, _||_}
+use mathlib.Core.List.{List}
 use lib.Dec.{leb, eqb}
-use Rattle.model.specs.Table.{Point}
-use Rattle.model.specs.Values.{lowest, highest}
-use Rattle.model.specs.Counters.{autoCount}
-use Rattle.model.specs.Format.{byte, pointRecord}
-use Rattle.model.specs.Raw.{binsAt}
-use Rattle.values.specs.Flags.{hit, flagsIn, excludedIn, listedIn, autoFlags}
+use Rattle.model.specs.Format.{byte}
 
 -- the record of a bin at `at` is one of the point's cover bins, or default bins if these count
 abbrev pub isOwn : List ℕ → ℕ → Bool → ℕ → Bool
@@ -24,9 +19,6 @@ someOwn s p defaults size at (suc n) = isOwn s p defaults at || someOwn s p defa
 abbrev pub hasAutoAt : List ℕ → ℕ → ℕ → ℕ → ℕ → ℕ → Bool
 hasAutoAt s p a n b k = not (someOwn s p true 8 a n) && not (someOwn s p false 4 b k)
 
-abbrev pub autoPart : Bool → Bool → ℕ → Point → List ℕ
-autoPart has live v p = cond has (autoFlags live v (autoCount p) (lowest p) (highest p)) []
-
 -- places and counts of a table that is not too long
 pub record Near (point a r n b k : ℕ) : Type 0 where
   pub point-near : point < 1000000000
@@ -35,10 +27,3 @@ pub record Near (point a r n b k : ℕ) : Type 0 where
   pub few-bins : n ≤ 512
   pub transitions-near : b < 1000000000
   pub few-transitions : k < 65536
-
--- The flags of point p, whose record stands at `point`, for the value v. The value bins' ranges stand from r on.
-unfoldable pub pointFlags : List ℕ → ℕ → ℕ → ℕ → ℕ → ℕ → ℕ → List ℕ → ℕ → ℕ → List ℕ
-pointFlags s point a r n b k w p v =
-    let bins = binsAt s a r n in
-    flagsIn (hit w (lowest (pointRecord s point)) v (excludedIn p v bins) (listedIn p v bins)) p bins
-    ++ autoPart (hasAutoAt s p a n b k) (not (excludedIn p v bins)) v (pointRecord s point)

@@ -6,7 +6,7 @@ ghost use mathlib.Core.Path.{_≡_};
 ghost use Prim.Native.Nat.{_<_, _≤_};
 ghost use mathlib.Core.Bool.{cond};
 ghost use Rattle.model.specs.Raw.{binsAt};
-ghost use Rattle.values.specs.Flags.{listedIn, firstListing};
+ghost use Rattle.values.specs.Listed.{listedIn, firstListing};
 
 // How many ranges of a bin to look at: none of another point's.
 fn own_ranges(own: bool, n: u16) -> usize

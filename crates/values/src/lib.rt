@@ -1,10 +1,6 @@
-// Which value bins of a point a known reading hits, read from the bytes of a table.
-pub mod autos;
+// The value bins of a point, read from the bytes of a table: which list a value, how many bins a cover bin stands for, the point's auto bins.
 pub mod bins;
+pub mod counts;
 pub mod fields;
-pub mod flags;
-pub mod given;
-pub mod marks;
 pub mod points;
-pub mod rising;
 pub mod value;

@@ -1,16 +1,13 @@
 // The auto bins of a point.
-use crate::autos::put_auto;
 use words::bytes::byte;
 use words::bytes::read2;
 ghost use mathlib.Core.Path.{_≡_};
-ghost use mathlib.Core.Bool.{true};
-ghost use Prim.Native.Nat.{_<_, _≤_, _+_, min};
-ghost use lib.ListN.{length};
-ghost use Rattle.model.specs.Format.{pointRecord, u16, byte};
-ghost use Rattle.model.specs.Values.{lowest, highest};
+ghost use Prim.Native.Nat.{_<_, _≤_, min};
+ghost use Rattle.model.specs.Format.{pointRecord};
+ghost use Rattle.model.specs.Values.{lowest};
 ghost use Rattle.ranges.specs.Types.{Wide};
-ghost use Rattle.arrays.specs.Put.{put};
-ghost use Rattle.values.specs.Points.{someOwn, hasAutoAt, autoPart};
+ghost use Rattle.values.specs.Counts.{autosOf};
+ghost use Rattle.values.specs.Points.{someOwn, hasAutoAt};
 
 // One of n records of size bytes is a cover bin of the point, or a default bin if these count.
 fn some_own(t: &[u8], start: usize, size: usize, n: usize, p: u8, defaults: bool) -> bool
@@ -41,31 +38,6 @@ pub fn has_auto(t: &[u8], a: usize, n: usize, b: usize, k: usize, p: u8) -> bool
     !x & !y
 }
 
-// The auto bins of the point whose record stands at point.
-pub fn put_autos(
-    flags: &mut [u8],
-    cur: usize,
-    t: &[u8],
-    point: usize,
-    v: u64,
-    has: bool,
-    live: bool,
-) -> usize
-    requires { ⌜ (point < 1000000000) × Wide (now t) point × (1 ≤ u16 (now t) (point + 9)) ⌝ }
-    requires { ⌜ (lowest (pointRecord (now t) point) ≤ v) × (v ≤ highest (pointRecord (now t) point)) × (cur + length (autoPart has live v (pointRecord (now t) point)) ≤ length (now flags)) ⌝ }
-    ensures { λ e. ⌜ (e ≡ cur + length (autoPart has live v (pointRecord (now (t .entry)) point))) × (now (flags .exit) ≡ put cur (autoPart has live v (pointRecord (now (t .entry)) point)) (now (flags .entry))) ⌝ }
-{
-    if !has {
-        return cur;
-    }
-    let width = byte(t, point);
-    let signed = byte(t, point + 1);
-    let low = ranges::lowest(width, signed == 1);
-    let all = ranges::power(width);
-    let number = auto_count(all, read2(t, point + 9));
-    put_auto(flags, cur, low, low + all - 1, number, v, live)
-}
-
 pub fn auto_count(all: u64, most: u16) -> usize
     ensures { λ r. ⌜ r ≡ min all most ⌝ }
 {
@@ -74,6 +46,19 @@ pub fn auto_count(all: u64, most: u16) -> usize
     } else {
         most as usize
     }
+}
+
+// How many auto bins the point has whose record stands at point. has: it has some.
+pub fn auto_total(t: &[u8], point: usize, has: bool) -> usize
+    requires { ⌜ (point < 1000000000) × Wide (now t) point ⌝ }
+    ensures { λ m. ⌜ (m ≡ autosOf has (pointRecord (now (t .entry)) point)) × (m ≤ 65535) ⌝ }
+{
+    if !has {
+        return 0;
+    }
+    let width = byte(t, point);
+    let all = ranges::power(width);
+    auto_count(all, read2(t, point + 9))
 }
 
 // The lowest value of the point's type.

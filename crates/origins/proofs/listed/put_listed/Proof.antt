@@ -5,7 +5,7 @@ use lib.ListN.{replicate, length-replicate}
 use Rattle.model.specs.Format.{u16}
 use Rattle.model.specs.Raw.{binsAt}
 use Rattle.arrays.proofs.Written.{Written, written-start, written-room, written-turn, written-end}
-use Rattle.origins.specs.Parts.{originsIn}
+use Rattle.origins.specs.Points.{originsIn}
 use Rattle.origins.proofs.OriginLaws.{origins-start, origins-turn, origins-end}
 use Rattle.origins.proofs.listed.put_listed.Statement.{statement}
 use Rattle.origins.proofs.listed.put_listed.Tie as tie

@@ -6,8 +6,8 @@ use borrow.Author.Needs.{needs}
 use Rattle.model.specs.Format.{pointRecord}
 use Rattle.model.specs.Raw.{binsAt}
 use Rattle.arrays.proofs.Written.{both-written}
-use Rattle.origins.specs.Parts.{originsIn, firstOf, pointOrigins}
-use Rattle.origins.proofs.PartLaws.{low-bound}
+use Rattle.origins.specs.Points.{originsIn, firstOf, pointOrigins}
+use Rattle.origins.proofs.CountLaws.{low-bound}
 use Rattle.origins.proofs.OriginLaws.{origins-point}
 use Rattle.origins.proofs.listed.put_point_origins.Statement.{statement}
 use Rattle.origins.proofs.listed.put_point_origins.Tie as tie

@@ -1,5 +1,4 @@
 use mathlib.Core.Path.{_≡_, refl, sym, ap, _∙_}
-use mathlib.Core.Bool.{true}
 use mathlib.Core.List.{List}
 use Prim.Native.Nat.{_+_, _-_, _*_, _≤_}
 use native.Mathlib.Omega.{arith}
@@ -8,8 +7,7 @@ use Rattle.model.specs.Table.{ValueBin}
 use Rattle.model.specs.Raw.{binsAt}
 use Rattle.arrays.specs.Put.{put}
 use Rattle.arrays.proofs.Written.{put-turn, put-end}
-use Rattle.values.specs.Flags.{fits}
-use Rattle.values.proofs.Laws.{bins-start, fits-here, fits-on}
+use Rattle.values.proofs.Laws.{bins-start}
 use Rattle.points.specs.Kinds.{kindsIn}
 use Rattle.points.proofs.KindLaws.{kinds-turn, kinds-end}
 use Rattle.points.proofs.kinds.put_value_kinds.Statement.{statement}
@@ -17,7 +15,7 @@ use Rattle.points.proofs.kinds.put_value_kinds.Tie as tie
 
 abbrev Inv-loop : tie.InvT-loop
 Inv-loop kinds₀ cur t p low a n c₀ at₀ i₀ kinds c at i =
-    (i ≤ n) × (at ≤ at₀ + 1114095 * i) × (length kinds ≡ length kinds₀) × (fits (binsAt t (a + 8 * i) at (n - i)) ≡ true)
+    (i ≤ n) × (at ≤ at₀ + 1114095 * i) × (length kinds ≡ length kinds₀)
     × (c + length (kindsIn low p (binsAt t (a + 8 * i) at (n - i))) ≡ cur + length (kindsIn low p (binsAt t a at₀ n)))
     × (put c (kindsIn low p (binsAt t (a + 8 * i) at (n - i))) kinds ≡ put cur (kindsIn low p (binsAt t a at₀ n)) kinds₀)
 
@@ -31,7 +29,6 @@ loop-holds c =
       omega arith,
       omega arith,
       refl,
-      ap fits z ∙ c .before .before .pre .0 .4,
       ap (λ (bs : List ValueBin). a .cur + length (kindsIn (a .low) (a .p) bs)) z,
       ap (λ (bs : List ValueBin). put (a .cur) (kindsIn (a .low) (a .p) bs) (a .kinds .now)) z,
     )
@@ -47,7 +44,7 @@ put-bin-kinds-requires c κs =
     let a = c .before .before .before .before .before .args in
     let l = c .before .before .loop in
     let z = kinds-turn (a .low) (a .p) (a .t .now) (a .own .bins) (l .at) (a .own .count) (l .i) _ (omega arith) refl in
-    (omega arith, omega arith, c .before .before .before .before .before .pre .0 .3, fits-here (a .t .now) (a .own .bins) (l .at) (a .own .count) (l .i) (omega arith) (l .inv .3), omega (arith, simp length-append at (ap length z), l .inv .2, l .inv .4, c .before .before .before .before .before .pre .1))
+    (omega arith, omega arith, c .before .before .before .before .before .pre .0 .3, omega (arith, simp length-append at (ap length z), l .inv .2, l .inv .3, c .before .before .before .before .before .pre .1))
 
 add-read2 : tie.Need-add-read2 Inv-loop μ-loop
 add-read2 c = omega arith
@@ -77,13 +74,12 @@ loop-again c =
     let q = c .before .before .before .put-bin-kinds in
     let k = c .read2 in
     let z = kinds-turn (a .low) (a .p) (a .t .now) (a .own .bins) (l .at) (a .own .count) (l .i) (k .result) (omega arith) (k .ensures) in
-    let w = put-turn (l .c) (q .result) _ _ _ (l .kinds) (q .last .0) z (omega (arith, l .inv .2, l .inv .4, c .before .before .before .before .before .before .before .before .before .pre .1)) (q .ensures .0) (q .ensures .1) in (
+    let w = put-turn (l .c) (q .result) _ _ _ (l .kinds) (q .last .0) z (omega (arith, l .inv .2, l .inv .3, c .before .before .before .before .before .before .before .before .before .pre .1)) (q .ensures .0) (q .ensures .1) in (
       omega arith,
       omega arith,
       q .kept .0 ∙ l .inv .2,
-      fits-on (a .t .now) (a .own .bins) (l .at) (a .own .count) (l .i) (omega arith) (l .inv .3) (k .result) (k .ensures),
-      w .0 ∙ l .inv .4,
-      w .1 ∙ l .inv .5,
+      w .0 ∙ l .inv .3,
+      w .1 ∙ l .inv .4,
     )
 
 same-length : tie.Need-same-length Inv-loop μ-loop
@@ -93,7 +89,7 @@ returns : tie.Need-returns Inv-loop μ-loop
 returns c =
     let a = c .before .before .before .before .args in
     let l = c .before .loop in
-    put-end (l .c) (a .cur) _ _ (l .kinds) (a .kinds .now) (kinds-end (a .low) (a .p) (a .t .now) (a .own .bins) (l .at) (a .own .count) (l .i) (omega arith)) (l .inv .4) (l .inv .5)
+    put-end (l .c) (a .cur) _ _ (l .kinds) (a .kinds .now) (kinds-end (a .low) (a .p) (a .t .now) (a .own .bins) (l .at) (a .own .count) (l .i) (omega arith)) (l .inv .3) (l .inv .4)
 
 pub put-value-kinds-spec : {M : Type 1} → statement M
 put-value-kinds-spec =

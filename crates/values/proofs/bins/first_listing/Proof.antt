@@ -2,7 +2,7 @@ use mathlib.Core.Path.{_≡_, sym, ap, _∙_}
 use Prim.Native.Nat.{_+_, _-_, _*_, _≤_, _<_}
 use native.Mathlib.Omega.{arith}
 use Rattle.model.specs.Raw.{binsAt}
-use Rattle.values.specs.Flags.{firstListing}
+use Rattle.values.specs.Listed.{firstListing}
 use Rattle.values.proofs.Laws.{bins-start}
 use Rattle.values.proofs.Listing.{leftOf, enter, range-hit, range-on, bin-on, none-lists}
 use Rattle.values.proofs.bins.first_listing.Statement.{statement}

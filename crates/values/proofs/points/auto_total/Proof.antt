@@ -1,22 +1,15 @@
-use mathlib.Core.Path.{refl, sym, ap, _∙_}
-use Prim.Native.Nat.{_+_, _-_}
 use native.Mathlib.Omega.{arith}
-use lib.ListN.{length}
 use borrow.Author.Needs.{needs}
 use borrow.Author.Tests.{not-true, not-false}
-use mathlib.Core.List.{[], _∷_}
-use Rattle.model.specs.Table.{span}
-use Rattle.model.specs.Values.{lowest}
 use Rattle.model.specs.Format.{pointRecord}
-use Rattle.origins.proofs.FormLaws.{portion-length}
-use Rattle.origins.proofs.PartLaws.{auto-none, auto-all}
-use Rattle.origins.proofs.listed.auto_total.Statement.{statement}
-use Rattle.origins.proofs.listed.auto_total.Tie as tie
+use Rattle.values.proofs.PointLaws.{auto-number, no-autos, some-autos}
+use Rattle.values.proofs.points.auto_total.Statement.{statement}
+use Rattle.values.proofs.points.auto_total.Tie as tie
 
 returns : tie.Need-returns
 returns c =
     let a = c .before .before .args in
-    (sym (ap length (auto-none (a .has) _ _ _ (not-true (a .has) (c .if1 .taken)))), omega arith)
+    (no-autos (a .has) (pointRecord (a .t .now) (a .point)) 0 (not-true (a .has) (c .if1 .taken)), omega arith)
 
 byte-requires : tie.Need-byte-requires
 byte-requires c κs = search needs
@@ -41,11 +34,7 @@ returns-2 c =
     let x = c .before .before .power in
     let m = c .before .read2 in
     let n = c .auto-count in
-    let low = lowest (pointRecord s (a .point)) in (
-      sym (ap length (auto-all s (a .point) low (w .result) (x .result) (m .result) (n .result) refl (w .ensures) (x .ensures .0) (m .ensures) (n .ensures) (a .has) (not-false (a .has) (c .before .before .before .before .if1 .left)))
-          ∙ portion-length (n .result) (span low (low + x .result - 1) ∷ []) 0 (n .result)),
-      omega arith,
-    )
+    (some-autos (a .has) (pointRecord s (a .point)) (n .result) (not-false (a .has) (c .before .before .before .before .if1 .left)) (auto-number s (a .point) (w .result) (x .result) (m .result) (n .result) (w .ensures) (x .ensures .0) (m .ensures) (n .ensures)), omega arith)
 
 pub auto-total-spec : {M : Type 1} → statement M
 auto-total-spec =

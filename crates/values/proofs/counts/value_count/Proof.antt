@@ -3,15 +3,15 @@ use Prim.Native.Nat.{_+_, _-_, _≤_}
 use native.Mathlib.Omega.{arith}
 use lib.ListN.{length}
 use borrow.Author.Needs.{needs}
+use Rattle.model.specs.Ranges.{ascending}
 use Rattle.model.specs.Raw.{rangesAt}
-use Rattle.origins.specs.Parts.{valueParts}
-use Rattle.origins.proofs.FormLaws.{value-turn, value-stop, value-end}
-use Rattle.origins.proofs.listed.value_count.Statement.{statement}
-use Rattle.origins.proofs.listed.value_count.Tie as tie
+use Rattle.values.proofs.CountLaws.{value-turn, value-stop, value-end}
+use Rattle.values.proofs.counts.value_count.Statement.{statement}
+use Rattle.values.proofs.counts.value_count.Tie as tie
 
 abbrev Inv-loop : tie.InvT-loop
 Inv-loop t cover k low x₀ i₀ x i =
-    (i ≤ 257) × (x ≤ 8589934592) × (i + length (valueParts (257 - i) (rangesAt t cover k) x) ≡ length (valueParts 257 (rangesAt t cover k) low))
+    (i ≤ 257) × (x ≤ 8589934592) × (i + length (ascending (257 - i) (rangesAt t cover k) x) ≡ length (ascending 257 (rangesAt t cover k) low))
 
 abbrev μ-loop : tie.MeasureT-loop
 μ-loop t cover k low x₀ i₀ x i = 257 - i

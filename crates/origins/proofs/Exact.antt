@@ -1,57 +1,41 @@
--- The cover bins of a point of a decoded table, by number, and the ranges of each.
+-- The cover bins of a point of a decoded table, by number.
 -- Assumes nothing.
 use mathlib.Core.Path.{_≡_, refl, sym, ap, ap₂, _∙_}
 use mathlib.Core.Bool.{Bool, true, false, _&&_, cond}
 use mathlib.Core.List.{List, [], _∷_, _++_, map, append-nil, map-append}
-use Prim.Native.Nat.{ℕ, suc, _+_, _≤_, zero}
+use Prim.Native.Nat.{ℕ, suc, _+_, _≤_}
 use native.Mathlib.Omega.{arith}
 use native.Mathlib.Numerals.{add-one}
 use lib.Dec.{eqb}
 use lib.ListN.{length, replicate, length-append, length-map}
-use lib.Seq.{take-all}
 use borrow.Author.Tests.{eqb-true}
 use Rattle.model.specs.Lists.{upFrom}
-use Rattle.model.specs.Table.{Point, Kind, cover, ignore, illegal, default, Form, single, perValue, fixed, Range, span, ValueBin, Table, isCover}
-use Rattle.model.specs.Values.{lowest, highest, binCount, distinctValues}
+use Rattle.model.specs.Table.{Point, Kind, cover, ignore, illegal, default, ValueBin, Table, isCover}
+use Rattle.model.specs.Values.{lowest, binCount}
 use Rattle.model.specs.Counters.{CoverBin, listed, auto, Counter, valueBin, pointAt, autoCount, hasAuto, binCounters, valueCounters, autoCounters, transitionCounters, pointCounters, coverBins}
-use Rattle.model.specs.Ranges.{firstValues, rangeCount}
 use Rattle.model.proofs.Readers.{All}
 use Rattle.model.proofs.WellFormed.{GoodBin, WellFormed}
-use Rattle.model.proofs.Exact.{first-exact, Divisible}
-use Rattle.model.proofs.TableExact.{point-at, divisible}
+use Rattle.model.proofs.TableExact.{divisible}
 use Rattle.model.proofs.Limits.{covers-append, covers-map, no-covers}
 use Rattle.model.proofs.Lists.{length-upFrom}
 use Rattle.arrays.specs.Flat.{covers, origin}
-use Rattle.origins.specs.Parts.{oneValue, valueParts, parts, ownParts, autoParts, originsIn}
-use Rattle.origins.proofs.FormLaws.{portion-length}
-
--- ---- the bins of a value bin, by number
-
--- how many they are
-pub parts-count : (q : Point) (f : Form) (rs : List Range) → length (parts (lowest q) f rs) ≡ rangeCount q f rs
-unfolding parts valueParts
-parts-count q single rs = refl
-parts-count q perValue rs = length-map (firstValues q rs) oneValue
-parts-count q (fixed n) rs = portion-length n rs 0 n
+use Rattle.values.specs.Counts.{coverCount, autosOf}
+use Rattle.values.proofs.CountExact.{counted, map-same}
+use Rattle.origins.specs.Points.{ownCount, originsIn}
 
 -- ---- the bins of some value bins, which are numbered from b on
 
-map-same-number : {A B : Type 0} (f : A → B) (g : ℕ → A) (b : B) → ((k : ℕ) → f (g k) ≡ b) → (i n : ℕ) → map f (map g (upFrom i n)) ≡ replicate n b
-unfolding upFrom
-map-same-number f g b h i zero = refl
-map-same-number f g b h i (suc n) = ap₂ _∷_ (h i) (map-same-number f g b h (suc i) n)
-
 numbered : ℕ → ℕ → ℕ → List ValueBin → List CoverBin
 numbered low p b [] = []
-numbered low p b (v ∷ vs) = map (listed b) (upFrom 0 (length (ownParts low p v))) ++ numbered low p (suc b) vs
+numbered low p b (v ∷ vs) = map (listed b) (upFrom 0 (ownCount low p v)) ++ numbered low p (suc b) vs
 
 -- by what each comes of
 numbered-origins : (low p b : ℕ) (vs : List ValueBin) → map origin (numbered low p b vs) ≡ originsIn low p b vs
 unfolding numbered originsIn
 numbered-origins low p b [] = refl
 numbered-origins low p b (v ∷ vs) =
-    map-append origin (map (listed b) (upFrom 0 (length (ownParts low p v)))) (numbered low p (suc b) vs)
-    ∙ ap₂ _++_ (map-same-number origin (listed b) b (λ k. refl) 0 (length (ownParts low p v)))
+    map-append origin (map (listed b) (upFrom 0 (ownCount low p v))) (numbered low p (suc b) vs)
+    ∙ ap₂ _++_ (map-same origin (listed b) b (λ k. refl) 0 (ownCount low p v))
     (numbered-origins low p (suc b) vs ∙ ap (λ (i : ℕ). originsIn low p i vs) (sym (add-one b)))
 
 module _ (t : Table) (p : ℕ) where
@@ -71,24 +55,14 @@ module _ (t : Table) (p : ℕ) where
       go true = covers-map (auto p) (upFrom 0 (autoCount (pointAt t p)))
       go false = unfold coverBins in refl
 
-  auto-origins : (c : Bool) → map origin (autos c) ≡ replicate (length (autoParts c (lowest q) (highest q) (autoCount q))) 65535
-  unfolding autos autoParts
-  auto-origins true = map-same-number origin (auto p) 65535 (λ k. refl) 0 (autoCount q) ∙ ap (λ (n : ℕ). replicate n 65535) (sym (portion-length (autoCount q) (span (lowest q) (highest q) ∷ []) 0 (autoCount q)))
+  auto-origins : (c : Bool) → map origin (autos c) ≡ replicate (autosOf c q) 65535
+  unfolding autos
+  auto-origins true = map-same origin (auto p) 65535 (λ k. refl) 0 (autoCount q)
   auto-origins false = refl
 
   module _ (w : WellFormed t) where
-    counted : (f : Form) (rs : List Range) → Divisible (pointAt t p) (point-at t w p) f rs → binCount (pointAt t p) f rs ≤ 256 → binCount (pointAt t p) f rs ≡ length (parts (lowest q) f rs)
-    unfolding q
-    counted f rs h few = go f h few ∙ sym (parts-count (pointAt t p) f rs)
-      where
-        go : (f : Form) → Divisible (pointAt t p) (point-at t w p) f rs → binCount (pointAt t p) f rs ≤ 256 → binCount (pointAt t p) f rs ≡ rangeCount (pointAt t p) f rs
-        go single h few = refl
-        go (fixed n) h few = refl
-        go perValue h few =
-            sym (ap length (first-exact (pointAt t p) (point-at t w p) rs h ∙ take-all 257 (distinctValues (pointAt t p) rs) (omega arith)))
-
     listed-covers : (b : ℕ) (vs : List ValueBin) → All (GoodBin (t .points)) vs → length (valueCounters t p b vs) ≤ 256 → coverBins (valueCounters t p b vs) ≡ numbered (lowest q) p b vs
-    unfolding valueCounters numbered ownParts
+    unfolding valueCounters numbered ownCount q
     listed-covers b [] good few = unfold coverBins in refl
     listed-covers b (v ∷ vs) good few =
         covers-append mine (valueCounters t p (suc b) vs)
@@ -104,17 +78,17 @@ module _ (t : Table) (p : ℕ) where
         long = length-append mine (valueCounters t p (suc b) vs)
 
         by-kind : (k : Kind) → v .point ≡ p → length (binCounters b k n) ≤ 256
-            → coverBins (binCounters b k n) ≡ map (listed b) (upFrom 0 (length (cond (isCover k) (parts (lowest q) (v .form) (v .ranges)) [])))
+            → coverBins (binCounters b k n) ≡ map (listed b) (upFrom 0 (cond (isCover k) (coverCount (lowest q) (v .form) (v .ranges)) 0))
         by-kind cover e few =
             covers-map (listed b) (upFrom 0 n)
             ∙ ap (λ (m : ℕ). map (listed b) (upFrom 0 m))
-            (counted (v .form) (v .ranges) (rw e at (divisible t w v (good .0))) (omega (arith, length-map (upFrom 0 n) (λ k. valueBin (listed b k)), length-upFrom 0 n)))
+            (counted t p w (v .form) (v .ranges) (rw e at (divisible t w v (good .0))) (omega (arith, length-map (upFrom 0 n) (λ k. valueBin (listed b k)), length-upFrom 0 n)))
         by-kind ignore e few = unfold coverBins upFrom in refl
         by-kind illegal e few = unfold coverBins upFrom in refl
         by-kind default e few = unfold coverBins upFrom in refl
 
         go : (c : Bool) → eqb (v .point) p ≡ c → length (cond c (binCounters b (v .kind) n) []) ≤ 256
-            → coverBins (cond c (binCounters b (v .kind) n) []) ≡ map (listed b) (upFrom 0 (length (cond (c && isCover (v .kind)) (parts (lowest q) (v .form) (v .ranges)) [])))
+            → coverBins (cond c (binCounters b (v .kind) n) []) ≡ map (listed b) (upFrom 0 (cond (c && isCover (v .kind)) (coverCount (lowest q) (v .form) (v .ranges)) 0))
         go true e few = by-kind (v .kind) (eqb-true (v .point) p e) few
         go false e few = unfold coverBins upFrom in refl
 
@@ -128,7 +102,7 @@ module _ (t : Table) (p : ℕ) where
           ∙ append-nil (numbered (lowest q) p 0 (t .valueBins) ++ autos (hasAuto t p))
 
       pub covers-origins : map origin (covers t p)
-          ≡ originsIn (lowest (pointAt t p)) p 0 (t .valueBins) ++ replicate (length (autoParts (hasAuto t p) (lowest (pointAt t p)) (highest (pointAt t p)) (autoCount (pointAt t p)))) 65535
+          ≡ originsIn (lowest (pointAt t p)) p 0 (t .valueBins) ++ replicate (autosOf (hasAuto t p) (pointAt t p)) 65535
       unfolding q
       covers-origins =
           ap (map origin) covers-numbered ∙ map-append origin (numbered (lowest q) p 0 (t .valueBins)) (autos (hasAuto t p))

@@ -14,7 +14,20 @@ use Rattle.model.specs.Values.{inRanges}
 use Rattle.model.specs.Ranges.{size, sizes, cutRange, cutRanges, portionRanges}
 use Rattle.model.proofs.Booleans.{false-true, and-left, and-right, bool-eq}
 use Rattle.model.proofs.Slices.{inRanges-append}
-use Rattle.values.specs.Flags.{inSpan, placeIn, binsOf}
+use Rattle.parts.specs.Rows.{placeIn}
+
+-- ---- where the value stands in the listed order of some spans, the first of which begins at `before`, as numbers of the bins that get these places
+
+abbrev inSpan : Range → ℕ → Bool
+inSpan (span lo hi) v = leb lo v && leb v hi
+inSpan (pattern bits mask) v = false
+
+unfoldable pub binsOf : ℕ → ℕ → ℕ → ℕ → List Range → List ℕ
+binsOf each last v before [] = []
+binsOf each last v before (r ∷ rs) =
+    cond (inSpan r v) (min ((before + placeIn r v) / each) last ∷ binsOf each last v (before + size r) rs) (binsOf each last v (before + size r) rs)
+
+-- ---- the model's portions
 
 -- the values that are cut out of a span
 cut-in : (start to lo hi v : ℕ) → inRanges (cutRange start to (span lo hi)) v ≡ (leb (lo + start) v && ltb v (lo + min to (suc hi - lo)))
