@@ -1,11 +1,13 @@
 // Section 8: crosses.
-use words::bytes::byte;
+use words::bytes::inside;
 use words::bytes::read2;
 use words::bytes::read4;
 use words::counts::section_count;
 use words::guards::guard_ok;
 use words::verdicts::Verdict;
 use words::verdicts::choose;
+use words::verdicts::fault;
+use words::verdicts::pick;
 use words::verdicts::sound;
 use words::verdicts::test;
 ghost use mathlib.Core.Path.{_≡_};
@@ -14,7 +16,7 @@ ghost use Prim.Native.Nat.{_+_, _≤_};
 ghost use lib.ListN.{length};
 ghost use Rattle.model.specs.Format.{crossPointTest, readCross, times, readCrossSection};
 ghost use Rattle.words.specs.Verdicts.{verdict, verdictOf, verdictIn};
-ghost use Rattle.check_crosses.specs.Crosses.{pairsDiffer, pointsDiffer, crossEnd};
+ghost use Rattle.check_crosses.specs.Crosses.{pairsDiffer, pointsDiffer, pointOk, pointsOk, crossEnd, soundCross};
 
 // Whether the first n of four points are different, n from 2 to 4.
 fn pairs_differ(n: u8, a: u8, b: u8, c: u8, d: u8) -> bool
@@ -28,26 +30,62 @@ fn pairs_differ(n: u8, a: u8, b: u8, c: u8, d: u8) -> bool
 }
 
 fn points_differ(t: &[u8], at: usize) -> bool
-    requires { ⌜ at ≤ 65536 ⌝ }
+    requires { ⌜ (at + 13 ≤ length (now t)) × (length (now t) ≤ 65536) ⌝ }
     ensures { λ r. ⌜ r ≡ pointsDiffer (now (t .entry)) at ⌝ }
 {
-    let n = byte(t, at);
-    let a = byte(t, at + 1);
-    let b = byte(t, at + 2);
-    let c = byte(t, at + 3);
-    let d = byte(t, at + 4);
+    let n = inside(t, at);
+    let a = inside(t, at + 1);
+    let b = inside(t, at + 2);
+    let c = inside(t, at + 3);
+    let d = inside(t, at + 4);
     pairs_differ(n, a, b, c, d)
+}
+
+// Whether the i-th of the four points is one of the table's, or unused.
+fn point_ok(t: &[u8], points: usize, at: usize, i: usize) -> bool
+    requires { ⌜ (at + 13 ≤ length (now t)) × (length (now t) ≤ 65536) × (i ≤ 3) ⌝ }
+    ensures { λ r. ⌜ r ≡ pointOk (now (t .entry)) points at i ⌝ }
+{
+    let p = inside(t, at + 1 + i) as usize;
+    let n = inside(t, at) as usize;
+    pick(i < n, p < points, p == 255)
+}
+
+// Whether there are two to four points, all of the table's.
+fn points_ok(t: &[u8], points: usize, at: usize) -> bool
+    requires { ⌜ (at + 13 ≤ length (now t)) × (length (now t) ≤ 65536) ⌝ }
+    ensures { λ r. ⌜ r ≡ pointsOk (now (t .entry)) points at ⌝ }
+{
+    let n = inside(t, at);
+    let a = point_ok(t, points, at, 0);
+    let b = point_ok(t, points, at, 1);
+    let c = point_ok(t, points, at, 2);
+    let d = point_ok(t, points, at, 3);
+    (2 <= n) & (n <= 4) & a & b & c & d
+}
+
+// Whether the cross at at, which is whole, passes all tests.
+fn sound_cross(t: &[u8], points: usize, at: usize) -> bool
+    requires { ⌜ (at + 13 ≤ length (now t)) × (length (now t) ≤ 65536) ⌝ }
+    ensures { λ r. ⌜ r ≡ soundCross (now (t .entry)) points at ⌝ }
+{
+    let known = points_ok(t, points, at);
+    let guarded = guard_ok(inside(t, at + 5));
+    let least = read4(t, at + 8);
+    let bins = inside(t, at + 12);
+    let different = points_differ(t, at);
+    known & guarded & (1 <= least) & (bins <= 16) & different
 }
 
 // The tests after those on the points.
 fn cross_end(t: &[u8], at: usize) -> Verdict
-    requires { ⌜ at ≤ 65536 ⌝ }
+    requires { ⌜ (at + 13 ≤ length (now t)) × (length (now t) ≤ 65536) ⌝ }
     ensures { λ r. ⌜ r ≡ verdictIn (crossEnd (now (t .entry)) at) (verdict 0 (at + 13)) ⌝ }
 {
     let different = points_differ(t, at);
-    let bins = byte(t, at + 12);
+    let bins = inside(t, at + 12);
     let least = read4(t, at + 8);
-    let guard = guard_ok(byte(t, at + 5));
+    let guard = guard_ok(inside(t, at + 5));
     let d = test(different, 7, at, sound(at + 13));
     let c = test(bins <= 16, 3, at + 12, d);
     let b = test(1 <= least, 6, at + 8, c);
@@ -56,12 +94,12 @@ fn cross_end(t: &[u8], at: usize) -> Verdict
 
 // The i-th of the four points: one of the table's, or unused.
 fn point_test(t: &[u8], points: usize, at: usize, i: usize, rest: Verdict) -> Verdict
-    requires { ⌜ (at ≤ 65536) × (i ≤ 3) ⌝ }
+    requires { ⌜ (at + 13 ≤ length (now t)) × (length (now t) ≤ 65536) × (i ≤ 3) ⌝ }
     ensures { λ r. ⌜ r ≡ verdictIn (crossPointTest (now (t .entry)) points at i ∷ []) rest ⌝ }
 {
     let place = at + 1 + i;
-    let p = byte(t, place) as usize;
-    let n = byte(t, at) as usize;
+    let p = inside(t, place) as usize;
+    let n = inside(t, at) as usize;
     let used = test(p < points, 6, place, rest);
     let free = test(p == 255, 5, place, rest);
     choose(i < n, used, free)
@@ -71,15 +109,19 @@ fn cross(t: &[u8], points: usize, at: usize) -> Verdict
     requires { ⌜ (at ≤ length (now t)) × (length (now t) ≤ 65536) ⌝ }
     ensures { λ r. ⌜ r ≡ verdictOf (readCross (now (t .entry)) points at) ⌝ }
 {
-    let whole = at + 13 <= t.len();
-    let n = byte(t, at);
+    if t.len() < at + 13 {
+        return fault(2, at);
+    }
+    if sound_cross(t, points, at) {
+        return sound(at + 13);
+    }
+    let n = inside(t, at);
     let e = cross_end(t, at);
     let d = point_test(t, points, at, 3, e);
     let c = point_test(t, points, at, 2, d);
     let b = point_test(t, points, at, 1, c);
     let a = point_test(t, points, at, 0, b);
-    let f = test((2 <= n) & (n <= 4), 6, at, a);
-    test(whole, 2, at, f)
+    test((2 <= n) & (n <= 4), 6, at, a)
 }
 
 // n crosses from start on.

@@ -7,11 +7,11 @@ use Rattle.check_crosses.proofs.heads.cross_end.Tie as tie
 points-differ-requires : tie.Need-points-differ-requires
 points-differ-requires c κs = search needs
 
-add-byte : tie.Need-add-byte
-add-byte c = search needs
+add-inside : tie.Need-add-inside
+add-inside c = search needs
 
-byte-requires : tie.Need-byte-requires
-byte-requires c κs = search needs
+inside-requires : tie.Need-inside-requires
+inside-requires c κs = search needs
 
 add-read4 : tie.Need-add-read4
 add-read4 c = search needs
@@ -19,11 +19,11 @@ add-read4 c = search needs
 read4-requires : tie.Need-read4-requires
 read4-requires c κs = search needs
 
-add-byte-2 : tie.Need-add-byte-2
-add-byte-2 c = search needs
+add-inside-2 : tie.Need-add-inside-2
+add-inside-2 c = search needs
 
-byte-requires-2 : tie.Need-byte-requires-2
-byte-requires-2 c κs = search needs
+inside-requires-2 : tie.Need-inside-requires-2
+inside-requires-2 c κs = search needs
 
 guard-ok-requires : tie.Need-guard-ok-requires
 guard-ok-requires c κs = search needs
@@ -57,19 +57,19 @@ test-requires-4 c κs = search needs
 
 returns : tie.Need-returns
 unfolding verdictIn crossEnd
-returns c = rw (c .test4 .ensures, c .before .test3 .ensures, c .before .before .test2 .ensures, c .before .before .before .test .ensures, c .before .before .before .before .sound .ensures, c .before .before .before .before .before .guard-ok .ensures, c .before .before .before .before .before .before .byte2 .ensures, c .before .before .before .before .before .before .before .read4 .ensures, c .before .before .before .before .before .before .before .before .byte .ensures, c .before .before .before .before .before .before .before .before .before .points-differ .ensures)
+returns c = rw (c .test4 .ensures, c .before .test3 .ensures, c .before .before .test2 .ensures, c .before .before .before .test .ensures, c .before .before .before .before .sound .ensures, c .before .before .before .before .before .guard-ok .ensures, c .before .before .before .before .before .before .inside2 .ensures, c .before .before .before .before .before .before .before .read4 .ensures, c .before .before .before .before .before .before .before .before .inside .ensures, c .before .before .before .before .before .before .before .before .before .points-differ .ensures)
 
 pub cross-end-spec : {M : Type 1} → statement M
 cross-end-spec =
     tie.close
     (tie.spec
     points-differ-requires
-    add-byte
-    byte-requires
+    add-inside
+    inside-requires
     add-read4
     read4-requires
-    add-byte-2
-    byte-requires-2
+    add-inside-2
+    inside-requires-2
     guard-ok-requires
     add-sound
     sound-requires

@@ -10,14 +10,14 @@ add-place c = search needs
 add-place-2 : tie.Need-add-place-2
 add-place-2 c = search needs
 
-byte-requires : tie.Need-byte-requires
-byte-requires c κs = search needs
+inside-requires : tie.Need-inside-requires
+inside-requires c κs = search needs
 
 cast-p : tie.Need-cast-p
 cast-p c = search needs
 
-byte-requires-2 : tie.Need-byte-requires-2
-byte-requires-2 c κs = search needs
+inside-requires-2 : tie.Need-inside-requires-2
+inside-requires-2 c κs = search needs
 
 cast-n : tie.Need-cast-n
 cast-n c = search needs
@@ -33,7 +33,7 @@ choose-requires c κs = search needs
 
 returns : tie.Need-returns
 unfolding verdictIn
-returns c = rw (verdict-in-choice, c .choose .ensures, c .before .test2 .ensures, c .before .before .test .ensures, c .before .before .before .byte2 .ensures, c .before .before .before .before .byte .ensures)
+returns c = rw (verdict-in-choice, c .choose .ensures, c .before .test2 .ensures, c .before .before .test .ensures, c .before .before .before .inside2 .ensures, c .before .before .before .before .inside .ensures)
 
 pub point-test-spec : {M : Type 1} → statement M
 point-test-spec =
@@ -41,9 +41,9 @@ point-test-spec =
     (tie.spec
     add-place
     add-place-2
-    byte-requires
+    inside-requires
     cast-p
-    byte-requires-2
+    inside-requires-2
     cast-n
     test-requires
     test-requires-2
