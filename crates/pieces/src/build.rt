@@ -6,7 +6,8 @@ use parts::points::Built;
 use parts::points::put_rows;
 use spans::collects::Bins;
 use spans::collects::spans_of;
-use spans::part::own_part;
+use spans::part::own_parts;
+use spans::part::part_of;
 use words::bytes::read2;
 ghost use mathlib.Core.Path.{_≡_};
 ghost use mathlib.Core.Bool.{true};
@@ -17,7 +18,7 @@ ghost use Rattle.model.specs.Raw.{recordCount};
 ghost use Rattle.model.specs.Register.{pointTotal};
 ghost use Rattle.arrays.specs.Put.{put};
 ghost use Rattle.spans.specs.Point.{SpansOf, rangesListed};
-ghost use Rattle.spans.specs.Part.{OwnPart};
+ghost use Rattle.spans.specs.Part.{OwnPart, OwnBins};
 ghost use Rattle.parts.specs.Words.{planRowsAt};
 ghost use Rattle.parts.specs.Point.{RowsOf};
 ghost use Rattle.pieces.specs.Plan.{PointPlan, ValuesPlan, pointNeed, planNeed};
@@ -77,13 +78,19 @@ fn put_by_rows(plan: &mut [u64], b: Built, spans: &[u64], t: &[u8], next: Next) 
 }
 
 // The plan of a point. The other arrays are room for its spans.
-fn put_point(plan: &mut [u64], room: &mut [u64], sorted: &mut [u64], t: &[u8], next: Next) -> Ends
-    requires { ⌜ (accepted (now t) ≡ true) × (next .point < pointTotal (tableOf (now t))) × (next .at + pointNeed (tableOf (now t)) (next .point) ≤ length (now plan)) ⌝ }
+fn put_point(
+    plan: &mut [u64],
+    room: &mut [u64],
+    sorted: &mut [u64],
+    t: &[u8],
+    own: Bins,
+    next: Next,
+) -> Ends
+    requires { ⌜ (accepted (now t) ≡ true) × (next .point < pointTotal (tableOf (now t))) × (next .at + pointNeed (tableOf (now t)) (next .point) ≤ length (now plan)) × OwnBins (now t) (next .point) own ⌝ }
     requires { ⌜ (rangesListed (tableOf (now t)) (next .point) ≤ length (now room)) × (length (now room) ≤ length (now sorted)) ⌝ }
     ensures { λ r. ⌜ PointPlan (tableOf (now (t .entry))) (next .point) (now (plan .exit)) (next .at) (r .spans) (r .pieces) (r .end) × (take (next .at) (now (plan .exit)) ≡ take (next .at) (now (plan .entry))) × (r .end ≤ next .at + pointNeed (tableOf (now (t .entry))) (next .point)) ⌝ }
 {
     let p = next.point;
-    let own = own_part(t, p as u8);
     let b = put_rows(plan, next.at, room, sorted, t, own, p);
     let k = put_excluded(sorted, room, t, own, p);
     put_by_rows(plan, b, &sorted[..k], t, next)
@@ -96,12 +103,14 @@ fn put_all(plan: &mut [u64], bounds: &mut [u16], room: &mut [u64], sorted: &mut 
     ensures { λ _. ⌜ ValuesPlan (tableOf (now (t .entry))) (now (plan .exit)) (now (bounds .exit)) × (length (now (plan .exit)) ≡ length (now (plan .entry))) × (length (now (bounds .exit)) ≡ length (now (bounds .entry))) ⌝ }
 {
     let n = read2(t, 0) as usize;
+    let parts = own_parts(t);
     bounds[0] = 0;
     let mut at = 0;
     let mut p = 0;
     while p < n {
+        let own = part_of(parts, p);
         let next = Next { point: p, at: at };
-        let r = put_point(plan, room, sorted, t, next);
+        let r = put_point(plan, room, sorted, t, own, next);
         bounds[3 * p + 1] = r.spans as u16;
         bounds[3 * p + 2] = r.pieces as u16;
         bounds[3 * p + 3] = r.end as u16;

@@ -6,24 +6,18 @@ use borrow.Author.Needs.{needs}
 use Rattle.pieces.proofs.build.put_point.Statement.{statement}
 use Rattle.pieces.proofs.build.put_point.Tie as tie
 
-cast-own-part : tie.Need-cast-own-part
-cast-own-part c = omega (arith, few-points (c .before .before .before .before .args .t .now) (c .before .before .before .before .pre .0 .0))
-
-own-part-requires : tie.Need-own-part-requires
-own-part-requires c κs = search needs
-
 put-rows-requires : tie.Need-put-rows-requires
 put-rows-requires c κs =
-    let q = c .before .before .before .before .before .before .before .before .pre in
-    let o = c .before .before .before .own-part .ensures in
-    ((q .0 .0, q .0 .1, omega (arith, q .0 .2), q .1 .0, q .1 .1), (o .0, o .1 .0, o .1 .1, o .1 .2))
+    let q = c .before .before .before .before .before .before .before .pre in
+    let o = q .0 .3 in
+    ((q .0 .0, q .0 .1, omega (arith, q .0 .2), q .1 .0, q .1 .1), (o .part, o .near, o .nearRanges, o .few))
 
 put-excluded-requires : tie.Need-put-excluded-requires
 put-excluded-requires c κs =
-    let q = c .before .before .before .before .before .before .before .before .before .before .before .before .before .before .before .before .before .pre in
+    let q = c .before .before .before .before .before .before .before .before .before .before .before .before .before .before .before .before .pre in
     let k = c .before .before .before .before .before .before .before .before .put-rows .kept in
-    let o = c .before .before .before .before .before .before .before .before .before .before .before .before .own-part .ensures in
-    ((q .0 .0, q .0 .1, omega (arith, k .1 .1 .0, q .1 .0), omega (arith, k .1 .1 .0, k .1 .1 .1 .0, q .1 .1)), (o .0, o .1 .0, o .1 .1, o .1 .2))
+    let o = q .0 .3 in
+    ((q .0 .0, q .0 .1, omega (arith, k .1 .1 .0, q .1 .0), omega (arith, k .1 .1 .0, k .1 .1 .1 .0, q .1 .1)), (o .part, o .near, o .nearRanges, o .few))
 
 slice-reshare-prefix-put-by-rows : tie.Need-slice-reshare-prefix-put-by-rows
 slice-reshare-prefix-put-by-rows c = search needs
@@ -35,7 +29,7 @@ slice-aggregate-put-by-rows c =
 
 put-by-rows-requires : tie.Need-put-by-rows-requires
 put-by-rows-requires c κs =
-    let q = c .before .before .before .before .before .before .before .before .before .before .before .before .before .before .before .before .before .before .before .before .before .before .before .before .pre in
+    let q = c .before .before .before .before .before .before .before .before .before .before .before .before .before .before .before .before .before .before .before .before .before .before .before .pre in
     let x = c .before .before .before .before .before .before .put-excluded in
     let r = c .before .before .before .before .before .before .before .before .before .before .before .before .before .before .before .put-rows in
     let k = length-take-le (x .result) (x .last .0) (omega (arith, x .kept .0, x .ensures .2)) in
@@ -59,8 +53,6 @@ pub put-point-spec : {M : Type 1} → statement M
 put-point-spec =
     tie.close
     (tie.spec
-    cast-own-part
-    own-part-requires
     put-rows-requires
     put-excluded-requires
     slice-reshare-prefix-put-by-rows
