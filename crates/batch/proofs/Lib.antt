@@ -1,6 +1,7 @@
 pub mod SampledWords
 pub mod Keeps
 pub mod TurnLaws
+pub mod Illegals
 pub mod PreparedLaws
 pub mod TopLaws
 pub mod OneLaws

@@ -15,7 +15,7 @@ use Rattle.model.proofs.RawExact.{few-points}
 use Rattle.layout.specs.Places.{layoutOf}
 use Rattle.lists.specs.Lists.{illegalsAt}
 use Rattle.samples.specs.Prepared.{Prepared}
-use Rattle.lists.proofs.SizeLaws.{lists-size, lists-most}
+use Rattle.lists.proofs.SizeLaws.{illegals-most, lists-size, lists-most}
 use Rattle.runs.specs.Rows.{sequenceRows}
 use Rattle.runs.proofs.RowSizes.{rows-few, rows-counted}
 use Rattle.layout.proofs.PlaceLaws.{points-total}
@@ -24,9 +24,11 @@ use Rattle.pieces.specs.Plan.{planNeed}
 use Rattle.pieces.proofs.PlanTurns.{plan-need}
 use Rattle.sampling.specs.declared.Index.{Index}
 use Rattle.sampling.specs.Index.{Indexed}
-use Rattle.sampling.proofs.Joins.{largest-room, plan-within, start-few, both-within}
+use Rattle.sampling.proofs.Joins.{plan-within, start-few, both-within}
 use Rattle.samples.proofs.ReportLaws.{illegal-many}
+use Rattle.places.specs.Places.{illegalPlaces}
 use Rattle.batch.specs.Turns.{Sized, roomFor}
+use Rattle.batch.proofs.Illegals.{few-illegals}
 
 -- the points by the table's bytes, the illegal counters by the lists
 pub counted : (s plan lists : List ℕ) → decode s ≡ decoded (tableOf s) → Prepared (tableOf s) plan lists → (n : ℕ) → n ≡ layoutOf s .«point_count» → (k : ℕ) → k ≡ getD lists (81 + 514 * n) 0
@@ -39,8 +41,12 @@ counted s plan lists known h n e k g =
 -- ---- the size classes
 
 module _ (s : List ℕ) (ok : accepted s ≡ true) where
-  pub largest-fits : Sized (tableOf s) 26592 28930
-  largest-fits = record { plan = omega (arith, plan-need s ok, rows-few s ok); lists = omega (arith, lists-most s ok, few-points s ok, largest-room s ok .1) }
+  -- the places of the illegal counters are few
+  listed-few : length (illegalPlaces (tableOf s)) ≤ 704
+  listed-few = omega (arith, illegal-many (tableOf s), few-illegals s ok)
+
+  pub largest-fits : Sized (tableOf s) 26592 17218
+  largest-fits = record { plan = omega (arith, plan-need s ok, rows-few s ok); lists = omega (arith, lists-most s ok, few-points s ok, listed-few) }
 
   module _ (x : Index) (own : Indexed (tableOf s) x) where
     pub index-small : (x .points ≤ 16) × (getD (x .starts) (x .points) 0 ≤ 4096)
@@ -56,9 +62,9 @@ module _ (s : List ℕ) (ok : accepted s ≡ true) where
           let one = and-left (leb (x .points) 4 && leb (x .counters) 512) (leb need 1024) h in
           let two = both-within (x .points) 4 (x .counters) 512 one in
           let fits = leb-true need 1024 (and-right (leb (x .points) 4 && leb (x .counters) 512) (leb need 1024) h) in
-          record { plan = omega (arith, enough, is); lists = omega (arith, lists-size s ok, own .points, own .counters, two .0, two .1) }
+          record { plan = omega (arith, enough, is); lists = omega (arith, lists-size s ok, illegals-most (tableOf s), own .points, own .counters, two .0, two .1) }
 
-      pub medium-fits : (leb (x .counters) 2048 && leb need 6144) ≡ true → Sized (tableOf s) 6144 12418
+      pub medium-fits : (leb (x .counters) 2048 && leb need 6144) ≡ true → Sized (tableOf s) 6144 11074
       medium-fits h =
           let two = both-within (x .counters) 2048 need 6144 h in
-          record { plan = omega (arith, enough, is, two .1); lists = omega (arith, lists-size s ok, few-points s ok, own .counters, two .0) }
+          record { plan = omega (arith, enough, is, two .1); lists = omega (arith, lists-size s ok, few-points s ok, listed-few, own .counters, two .0) }

@@ -106,7 +106,7 @@ const SMALL_HITS: usize = 768;
 
 const MEDIUM_PLAN: usize = 6144;
 
-const MEDIUM_LISTS: usize = 12418;
+const MEDIUM_LISTS: usize = 11074;
 
 const MEDIUM_COUNTERS: usize = 2048;
 
@@ -114,7 +114,7 @@ const MEDIUM_HITS: usize = 2304;
 
 const LARGEST_PLAN: usize = 26592;
 
-const LARGEST_LISTS: usize = 28930;
+const LARGEST_LISTS: usize = 17218;
 
 const LARGEST_HITS: usize = 12672;
 
@@ -218,7 +218,7 @@ fn medium(
     kinds: &[u8],
     x: Index,
 ) -> Taken
-    requires { ⌜ Ready (now t) (now register) × Indexed (tableOf (now t)) x × Labelled (tableOf (now t)) (now kinds) × Sized (tableOf (now t)) 6144 12418 ⌝ }
+    requires { ⌜ Ready (now t) (now register) × Indexed (tableOf (now t)) x × Labelled (tableOf (now t)) (now kinds) × Sized (tableOf (now t)) 6144 11074 ⌝ }
     ensures { λ r. ⌜ Took (turns (now (t .entry)) (tableOf (now (t .entry))) (now (register .entry)) (now (s .entry)) (now (reports .entry))) r (now (register .exit)) (now (reports .exit)) ⌝ }
 {
     let mut plan = [0u64; MEDIUM_PLAN];

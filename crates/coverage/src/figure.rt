@@ -61,18 +61,28 @@ fn largest_tallies(t: &[u8], register: &[u32]) -> Tallies
     tallies_in(&mut flags, &mut labels, t, register)
 }
 
-// Each item's total, and how many of it are covered.
-pub fn all_tallies(t: &[u8], register: &[u32], counters: usize, points: usize) -> Tallies
+// Each item's total, and how many of it are covered: by the first class, from class on, that has room. It calls itself, since a compiler then keeps the classes' arrays out of its frame and each other's.
+pub fn all_tallies(
+    t: &[u8],
+    register: &[u32],
+    counters: usize,
+    points: usize,
+    class: usize,
+) -> Tallies
     requires { ⌜ (accepted (now t) ≡ true) × (longEnough (tableOf (now t)) (now register) ≡ true) × (counters ≡ counterTotal (tableOf (now t))) × (points ≡ pointTotal (tableOf (now t))) ⌝ }
     ensures { λ r. ⌜ TalliesOf (tableOf (now (t .entry))) (now (register .entry)) r ⌝ }
 {
-    if counters <= 1024 {
-        if points <= 4 {
+    if class == 0 {
+        if (counters <= 1024) & (points <= 4) {
             return small_tallies(t, register);
         }
+        return all_tallies(t, register, counters, points, 1);
     }
-    if counters <= 4096 {
-        return medium_tallies(t, register);
+    if class == 1 {
+        if counters <= 4096 {
+            return medium_tallies(t, register);
+        }
+        return all_tallies(t, register, counters, points, 2);
     }
     largest_tallies(t, register)
 }
@@ -88,7 +98,7 @@ pub fn item_figure(
     requires { ⌜ (accepted (now t) ≡ true) × (longEnough (tableOf (now t)) (now register) ≡ true) × (counters ≡ counterTotal (tableOf (now t))) × (points ≡ pointTotal (tableOf (now t))) × (item < itemCount (tableOf (now t))) ⌝ }
     ensures { λ r. ⌜ r ≡ itemAnswer (tableOf (now (t .entry))) (now (register .entry)) item ⌝ }
 {
-    let y = all_tallies(t, register, counters, points);
+    let y = all_tallies(t, register, counters, points, 0);
     let totals = y.totals;
     let covered = y.covered;
     figures::item_figure(covered[item], totals[item])
@@ -99,7 +109,7 @@ pub fn group_figure(t: &[u8], register: &[u32], counters: usize, points: usize) 
     requires { ⌜ (accepted (now t) ≡ true) × (longEnough (tableOf (now t)) (now register) ≡ true) × (counters ≡ counterTotal (tableOf (now t))) × (points ≡ pointTotal (tableOf (now t))) ⌝ }
     ensures { λ r. ⌜ r ≡ groupAnswer (tableOf (now (t .entry))) (now (register .entry)) ⌝ }
 {
-    let y = all_tallies(t, register, counters, points);
+    let y = all_tallies(t, register, counters, points, 0);
     let totals = y.totals;
     let covered = y.covered;
     mean(t, &totals, &covered)

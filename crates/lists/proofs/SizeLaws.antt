@@ -20,13 +20,13 @@ parts : (t : Table) → counterTotal t ≡ length (allPointCounters t) + length 
 unfolding counters allPointCounters allCrossCounters
 parts t = length-append (allPointCounters t) (allCrossCounters t)
 
-illegals-most : (t : Table) → length (illegalPlaces t) ≤ counterTotal t
+pub illegals-most : (t : Table) → length (illegalPlaces t) ≤ counterTotal t
 unfolding illegalPlaces
 illegals-most t = places-few (λ c. ofKind 2 (kindOf c)) 0 (counters t)
 
 module _ (s : List ℕ) (ok : accepted s ≡ true) where
-  pub lists-size : listsNeed (tableOf s) ≤ 98 + 514 * pointTotal (tableOf s) + 2 * counterTotal (tableOf s)
-  lists-size = omega (arith, illegals-most (tableOf s), marks-counters (tableOf s), parts (tableOf s))
+  pub lists-size : listsNeed (tableOf s) ≤ 98 + 514 * pointTotal (tableOf s) + length (illegalPlaces (tableOf s)) + counterTotal (tableOf s)
+  lists-size = omega (arith, marks-counters (tableOf s), parts (tableOf s))
 
-  pub lists-most : listsNeed (tableOf s) ≤ 98 + 514 * pointTotal (tableOf s) + counterTotal (tableOf s) + 8192
-  lists-most = omega (arith, illegals-most (tableOf s), marks-few s ok)
+  pub lists-most : listsNeed (tableOf s) ≤ 98 + 514 * pointTotal (tableOf s) + length (illegalPlaces (tableOf s)) + 8192
+  lists-most = omega (arith, marks-few s ok)

@@ -127,6 +127,41 @@ fn largest_marks(marks: &mut [u16], t: &[u8], plan: &[u64], lists: &[u16], x: Cr
     mark_in(marks, &mut stack, &mut leaves, t, plan, lists, x);
 }
 
+// The first class, from class on, that has room; m is the token count of the longest bin. It calls itself, since a compiler then keeps the classes' arrays out of its frame and each other's.
+fn marks_by(
+    marks: &mut [u16],
+    t: &[u8],
+    plan: &[u64],
+    lists: &[u16],
+    x: Crossed,
+    m: usize,
+    class: usize,
+)
+    requires { ⌜ Stands (now t) (x .place) × Fits (tableOf (now t)) (x .place .number) (x .shape) × Origins (tableOf (now t)) (drop 64 (now lists)) × ValuesPlan (tableOf (now t)) (now plan) (now lists) × (x .shape .total ≤ length (now marks)) ⌝ }
+    requires { ⌜ m ≡ longestBin (now t) (x .place) ⌝ }
+    ensures { λ _. ⌜ take (x .shape .total) (now (marks .exit)) ≡ crossMarks (tableOf (now (t .entry))) (x .place .number) ⌝ }
+{
+    let s = x.shape;
+    let room = (m / 2 + 1) * s.total;
+    if class == 0 {
+        if (m <= 8) & (room <= 2048) {
+            small_marks(marks, t, plan, lists, x);
+            return;
+        }
+        marks_by(marks, t, plan, lists, x, m, 1);
+        return;
+    }
+    if class == 1 {
+        if (m <= 16) & (room <= 6144) {
+            medium_marks(marks, t, plan, lists, x);
+            return;
+        }
+        marks_by(marks, t, plan, lists, x, m, 2);
+        return;
+    }
+    largest_marks(marks, t, plan, lists, x);
+}
+
 // All products of a cross. plan and the start of `lists` are the plan of the table's values;
 // from element 64 on the lists say which value bin each part comes of.
 pub fn mark_products(marks: &mut [u16], t: &[u8], plan: &[u64], lists: &[u16], x: Crossed)
@@ -134,16 +169,6 @@ pub fn mark_products(marks: &mut [u16], t: &[u8], plan: &[u64], lists: &[u16], x
     ensures { λ _. ⌜ take (x .shape .total) (now (marks .exit)) ≡ crossMarks (tableOf (now (t .entry))) (x .place .number) ⌝ }
 {
     let p = x.place;
-    let s = x.shape;
     let m = longest_bin(t, p);
-    let room = (m / 2 + 1) * s.total;
-    if (m <= 8) & (room <= 2048) {
-        small_marks(marks, t, plan, lists, x);
-        return;
-    }
-    if (m <= 16) & (room <= 6144) {
-        medium_marks(marks, t, plan, lists, x);
-        return;
-    }
-    largest_marks(marks, t, plan, lists, x);
+    marks_by(marks, t, plan, lists, x, m, 0);
 }
