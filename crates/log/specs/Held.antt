@@ -1,6 +1,6 @@
 -- What is known of a log between two of its entries.
 -- Assumes nothing.
-use Prim.Native.Nat.{ℕ, _+_, _*_, _≤_, _<_}
+use Prim.Native.Nat.{ℕ, _+_, _≤_, _<_}
 use mathlib.Core.Path.{_≡_}
 use Rattle.log.specs.declared.Log.{Log}
 
@@ -19,10 +19,10 @@ pub record Kept (log next : Log) : Type 0 where
   pub to : next .to ≡ log .to
   pub entry : next .entry ≡ log .entry
 
--- Want bytes, at most 148, stand in the buffer, unless the log stopped: its state is 0 while it goes on.
+-- if the log goes on (its state is then 0), want bytes stand in the buffer
 abbrev pub Standing : ℕ → Log → Type 0
-Standing want log = log .from + want ≤ log .to + 148 * log .state
+Standing want log = log .state ≡ 0 → log .from + want ≤ log .to
 
--- the second log is at a later entry than the first, or it stopped
+-- if the second log goes on, it is at a later entry than the first
 abbrev pub Onward : Log → Log → Type 0
-Onward log next = log .entry < next .entry + next .state
+Onward log next = next .state ≡ 0 → log .entry < next .entry

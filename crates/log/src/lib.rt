@@ -5,7 +5,7 @@ use streams::files::Filled;
 use streams::files::fill;
 use streams::files::to_front;
 ghost use mathlib.Core.Path.{_≡_};
-ghost use Prim.Native.Nat.{_+_, _*_, _≤_, _<_};
+ghost use Prim.Native.Nat.{_+_, _≤_, _<_};
 ghost use lib.ListN.{length};
 ghost use Rattle.log.specs.Held.{Held, Kept, Onward, Standing};
 
@@ -86,8 +86,7 @@ pub fn outcome(log: Log, number: u32) -> Log
 
 // How a log stands after a read of its bytes.
 fn state_after(got: Filled, want: usize) -> u8
-    requires { ⌜ want ≤ 148 ⌝ }
-    ensures { λ r. ⌜ want ≤ got .count + 148 * r ⌝ }
+    ensures { λ r. ⌜ (r ≡ 0 → want ≤ got .count) ⌝ }
 {
     if want <= got.count {
         return GOING;
@@ -110,7 +109,7 @@ fn moved(log: Log, from: usize, to: usize, state: u8) -> Log
 
 // Reads on until the next want bytes stand in the buffer; fewer where the log ends or a read fails.
 pub fn have_bytes(bytes: &mut [u8], log: Log, want: usize) -> Log
-    requires { ⌜ Held log (length (now bytes)) × (want ≤ 148) ⌝ }
+    requires { ⌜ Held log (length (now bytes)) ⌝ }
     ensures { λ r. ⌜ Held r (length (now (bytes .exit))) × Standing want r × (r .points ≡ log .points) × (r .entry ≡ log .entry) ⌝ }
 {
     let from = log.from;

@@ -6,7 +6,7 @@ ghost use lib.ListN.{length};
 ghost use Rattle.model.specs.Format.{u32};
 ghost use Rattle.model.specs.Raw.{rows};
 ghost use Rattle.arrays.specs.Put.{put};
-ghost use Rattle.log.specs.Samples.{samplesIn};
+ghost use Rattle.log.specs.Samples.{samplesIn, blockCount};
 
 // The samples of a block, and the words of its reports, at most.
 const BLOCK: usize = 256;
@@ -23,6 +23,7 @@ pub struct Block {
 pub fn block_of(bytes: &[u8], points: usize, illegals: usize) -> Block
     requires { ⌜ (points ≤ 16) × (illegals ≤ 12416) × (20 + 8 * points ≤ length (now bytes)) ⌝ }
     ensures { λ r. ⌜ (0 < r .count) × (r .count ≤ 256) × (r .size ≤ length (now (bytes .entry))) ⌝ }
+    ensures { λ r. ⌜ (r .count ≡ blockCount points illegals (now (bytes .entry))) × (r .size ≡ r .count * (20 + 8 * points)) ⌝ }
 {
     let one = 20 + 8 * points;
     let mut count = 1;

@@ -7,6 +7,7 @@ use streams::out::say;
 use streams::text::say_head;
 use streams::text::say_kind;
 use streams::text::say_number;
+use streams::text::say_numbered;
 use values::fields::word;
 use words::bytes::byte;
 ghost use mathlib.Core.Path.{_≡_};
@@ -24,11 +25,9 @@ pub fn count_of(register: &[u32], place: usize) -> u32 {
 // Whose item it is: the points, then the crosses.
 pub fn say_owner(out: &mut [u8], item: usize, points: usize) {
     if item < points {
-        say(out, b"point ");
-        say_number(out, item as u64);
+        say_numbered(out, b"point ", item as u64);
     } else {
-        say(out, b"cross ");
-        say_number(out, (item - points) as u64);
+        say_numbered(out, b"cross ", (item - points) as u64);
     }
 }
 
@@ -82,7 +81,7 @@ fn say_what(out: &mut [u8], c: Counter, points: usize) {
 }
 
 fn say_counter(out: &mut [u8], c: Counter, points: usize) {
-    say_head(out, b"place", c.place as u64);
+    say_head(out, b"place ", c.place as u64);
     say_number(out, c.count as u64);
     say(out, b" (");
     say_what(out, c, points);

@@ -6,28 +6,24 @@ use log::OF_NO_KIND;
 use log::REFUSED;
 use streams::out::say;
 use streams::text::end_line;
-use streams::text::say_number;
+use streams::text::say_numbered;
 use streams::text::say_refusal;
 
 fn say_refused(out: &mut [u8], log: Log) {
-    say(out, b"entry ");
-    say_number(out, log.entry);
+    say_numbered(out, b"entry ", log.entry);
     say(out, b" refused: ");
     say_refusal(out, log.number);
     end_line(out);
 }
 
 fn say_of_no_kind(out: &mut [u8], log: Log) {
-    say(out, b"entry ");
-    say_number(out, log.entry);
-    say(out, b" of no kind: its first word is ");
-    say_number(out, log.number as u64);
+    say_numbered(out, b"entry ", log.entry);
+    say_numbered(out, b" of no kind: its first word is ", log.number as u64);
     say(out, b", none of 0, 1, 2\n");
 }
 
 fn say_where(out: &mut [u8], text: &[u8], entry: u64) {
-    say(out, text);
-    say_number(out, entry);
+    say_numbered(out, text, entry);
     end_line(out);
 }
 

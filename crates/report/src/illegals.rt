@@ -2,7 +2,7 @@
 use crate::counters::count_of;
 use arrays::element;
 use streams::out::say;
-use streams::text::say_number;
+use streams::text::say_numbered;
 use values::fields::word;
 use words::bytes::byte;
 ghost use mathlib.Core.Path.{_≡_};
@@ -38,12 +38,9 @@ fn say_raised(out: &mut [u8], illegals: &mut [u16], i: usize, raised: u32, sampl
     if !shows(illegals, i) {
         return;
     }
-    say(out, b"illegal place ");
-    say_number(out, element(illegals, i) as u64);
-    say(out, b" raised at sample ");
-    say_number(out, sample);
-    say(out, b" (entry ");
-    say_number(out, entry);
+    say_numbered(out, b"illegal place ", element(illegals, i) as u64);
+    say_numbered(out, b" raised at sample ", sample);
+    say_numbered(out, b" (entry ", entry);
     say(out, b")\n");
 }
 
@@ -103,12 +100,9 @@ fn say_total(out: &mut [u8], register: &[u32], kind: u8, place: usize) {
     if (count == 0) | !is_illegal(kind) {
         return;
     }
-    say(out, b"illegal place ");
-    say_number(out, place as u64);
-    say(out, b" total: ");
-    say_number(out, count as u64);
-    say(out, b" (");
-    say_number(out, shown_of(count) as u64);
+    say_numbered(out, b"illegal place ", place as u64);
+    say_numbered(out, b" total: ", count as u64);
+    say_numbered(out, b" (", shown_of(count) as u64);
     say(out, b" shown)\n");
 }
 

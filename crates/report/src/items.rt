@@ -7,15 +7,13 @@ use figures::present;
 use streams::out::say;
 use streams::text::end_line;
 use streams::text::say_head;
-use streams::text::say_number;
+use streams::text::say_numbered;
 use streams::text::say_percent;
 
 fn say_unknown(out: &mut [u8], table: &[u8], register: &[u32], point: usize) {
     let counted = register::unknown_count(table, register, point);
-    say(out, b"point ");
-    say_number(out, point as u64);
-    say(out, b" unknown: ");
-    say_number(out, counted.count as u64);
+    say_numbered(out, b"point ", point as u64);
+    say_numbered(out, b" unknown: ", counted.count as u64);
     end_line(out);
 }
 
@@ -50,7 +48,7 @@ fn say_figure(out: &mut [u8], is_there: bool, figure: u64) {
 fn say_item(out: &mut [u8], table: &[u8], register: &[u32], item: usize, points: usize) {
     let answer = register::item_figure(table, register, item);
     let figure = answer.figure;
-    say_head(out, b"item", item as u64);
+    say_head(out, b"item ", item as u64);
     say_figure(out, present(figure) == 1, millionths(percent_of(figure)));
     say(out, b" (");
     say_owner(out, item, points);

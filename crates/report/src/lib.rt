@@ -11,15 +11,14 @@ use crate::items::say_items;
 use crate::items::say_unknowns;
 use layout::layout_of;
 use streams::out::say;
-use streams::text::say_number;
+use streams::text::say_numbered;
 use values::fields::word;
 ghost use mathlib.Core.Path.{_≡_};
 ghost use mathlib.Core.Bool.{true};
 ghost use Rattle.model.specs.Format.{accepted};
 
 fn say_state(out: &mut [u8], register: &[u32]) {
-    say(out, b"samples ");
-    say_number(out, word(register, 1) as u64);
+    say_numbered(out, b"samples ", word(register, 1) as u64);
     if word(register, 0) == 1 {
         say(out, b", running\n");
     } else {

@@ -7,15 +7,19 @@ pub fn say_number(out: &mut [u8], n: u64) {
     say(out, &text[..k]);
 }
 
+// A text, and a number after it.
+pub fn say_numbered(out: &mut [u8], text: &[u8], n: u64) {
+    say(out, text);
+    say_number(out, n);
+}
+
 pub fn end_line(out: &mut [u8]) {
     say(out, b"\n");
 }
 
-// A word, a number, and a colon.
-pub fn say_head(out: &mut [u8], word: &[u8], n: u64) {
-    say(out, word);
-    say(out, b" ");
-    say_number(out, n);
+// A text, a number, and a colon.
+pub fn say_head(out: &mut [u8], text: &[u8], n: u64) {
+    say_numbered(out, text, n);
     say(out, b": ");
 }
 
