@@ -1,4 +1,4 @@
-// How many bins a cover bin stands for.
+// How many bins a cover bin stands for, and how many values each of them gets at least.
 use ranges::next::next_in;
 use words::bytes::byte;
 use words::bytes::read2;
