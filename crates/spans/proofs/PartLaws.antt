@@ -36,56 +36,10 @@ past-turn s i a₀ r₀ a r k ea er ek = ap₂ (λ (x y : ℕ). x + 17 * y) er (
 pub other-at : (s : List ℕ) (p a₀ i a v : ℕ) → a ≡ a₀ + 8 * i → v ≡ byte s a → (v ≡ p → ⊥) → Other s p (a₀ + 8 * i)
 other-at s p a₀ i a v ea e h = ne-eqb (byte s (a₀ + 8 * i)) p (λ z. h (e ∙ ap (byte s) ea ∙ z))
 
-pub others-more : (s : List ℕ) (p a i : ℕ) → OthersTo s p a i → Other s p (a + 8 * i) → OthersTo s p a (i + 1)
-others-more s p a i done here j h = go (ltb j i) refl
-  where
-    go : (c : Bool) → ltb j i ≡ c → Other s p (a + 8 * j)
-    go true e = done j (ltb-true j i e)
-    go false e = let z : i ≡ j = omega (arith, ltb-false j i e) in ap (λ (x : ℕ). eqb (byte s (a + 8 * x)) p) (sym z) ∙ here
-
-pub others-down : (s : List ℕ) (p a n k : ℕ) → OthersFrom s p a n k → 0 < k → Other s p (a + 8 * (k - 1)) → OthersFrom s p a n (k - 1)
-others-down s p a n k done some here j g h = go (ltb j k) refl
-  where
-    go : (c : Bool) → ltb j k ≡ c → Other s p (a + 8 * j)
-    go true e = let z : k - 1 ≡ j = omega (arith, ltb-true j k e) in ap (λ (x : ℕ). eqb (byte s (a + 8 * x)) p) (sym z) ∙ here
-    go false e = done j (ltb-false j k e) h
-
--- from the first one on
-pub part-from : (s : List ℕ) (p a r n i b q m : ℕ) → b ≡ a + 8 * i → q ≡ rangesPast s a r i → q ≤ r + 1114095 * i → i + m ≡ n → OthersTo s p a i → PartOf s p a r n b q m
-part-from s p a r n i b q m eb eq near whole done =
-    record { skipped = i; place = eb; ranges = eq; near = near; few = omega arith; others = done; others₁ = λ j g h. absurd (omega arith) }
-
--- both ends
-pub part-between : (s : List ℕ) (p a r n b q m k : ℕ) → PartOf s p a r n b q m → k ≤ m → OthersFrom s p b m k → PartOf s p a r n b q k
-part-between s p a r n b q m k o h rest =
-    record {
-      skipped = o .skipped;
-      place = o .place;
-      ranges = o .ranges;
-      near = o .near;
-      few = omega (arith, o .few);
-      others = o .others;
-      others₁ = after;
-    }
-  where
-    after : OthersFrom s p a n (o .skipped + k)
-    after j g i = go (ltb j (o .skipped + m)) refl
-      where
-        go : (c : Bool) → ltb j (o .skipped + m) ≡ c → Other s p (a + 8 * j)
-        go true e =
-            let z : b + 8 * (j - o .skipped) ≡ a + 8 * j = omega (arith, o .place) in
-            ap (λ (x : ℕ). eqb (byte s x) p) (sym z) ∙ rest (j - o .skipped) (omega arith) (omega (arith, ltb-true j (o .skipped + m) e))
-        go false e = o .others₁ j (omega (arith, ltb-false j (o .skipped + m) e)) i
-
 -- in a table
 pub bins-few : (s : List ℕ) (l : BinSections) → l ≡ binSectionsOf s → l .«bin_count» ≡ recordCount s 1
 unfolding layoutOf
 bins-few s l el = ap (λ (x : BinSections). x .«bin_count») el
-
-pub table-part : (s : List ℕ) (p b q m k : ℕ) (l : BinSections) → l ≡ binSectionsOf s → PartOf s p (l .bins) (l .ranges) (l .«bin_count») b q m → k ≤ m → OthersFrom s p b m k → OwnPart s p b q k
-unfolding layoutOf
-table-part s p b q m k l el o h rest =
-    part-between s p (recordsPlace s 1) (recordsPlace s 2) (recordCount s 1) b q m k (subst (λ (x : BinSections). PartOf s p (x .bins) (x .ranges) (x .«bin_count») b q m) el o) h rest
 
 -- ---- a point's own bins
 
