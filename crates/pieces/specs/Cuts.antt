@@ -55,7 +55,7 @@ unfoldable pub pieceWords : List Piece → List ℕ
 pieceWords [] = []
 pieceWords (q ∷ qs) = rangeWords (q .range) (q .part) ++ pieceWords qs
 
--- ---- what the code asks of a row; `rows-cuttable` (proofs/Rows.antt) says that the rows of a point have it
+-- ---- what the code asks of a row; `rows-cuttable` (proofs/PointPieces.antt) says that the rows of a point have it
 
 abbrev pub Bounded : ℕ → Range → Type 0
 Bounded low (span lo hi) = (low ≤ lo) × (lo ≤ hi) × (hi < 2 ^ 33)
