@@ -9,7 +9,7 @@ use native.Mathlib.Nat.{mul-le-mul-right}
 use lib.Dec.{leb, eqb}
 use lib.Ieee.Nearest.{div-mono}
 use lib.ListN.{length, length-append}
-use lib.Pow.{pow-pos}
+use lib.Pow.{pow-pos, pow-mono}
 use borrow.Author.Tests.{le-leb, eqb-true}
 use Rattle.model.specs.Lists.{sumOf}
 use Rattle.model.specs.Table.{Point, Form, single, perValue, fixed, Range, span, pattern, ValueBin, Table, isCover}
@@ -72,10 +72,10 @@ rows-typed q first (s ∷ ss) h =
     all-append (λ r. Typed q (r .range)) (sourceRows first s) (rowsFrom (first + countOf s) ss)
     (range-typed q first (countOf s - 1) (shareOf (s .form) (s .ranges)) 0 (s .ranges) (h .0)) (rows-typed q (first + countOf s) ss (h .1))
 
-legal-typed : (q : Point) (patterns : Bool) (rs : List Range) → All (Legal q patterns) rs → All (Typed q) rs
-legal-typed q patterns [] h = tt
-legal-typed q patterns (span lo hi ∷ rs) h = (h .0, legal-typed q patterns rs (h .1))
-legal-typed q patterns (pattern bits mask ∷ rs) h = (tt, legal-typed q patterns rs (h .1))
+legal-typed : (q : Point) → GoodPoint q → (patterns : Bool) (rs : List Range) → All (Legal q patterns) rs → All (Typed q) rs
+legal-typed q good patterns [] h = tt
+legal-typed q good patterns (span lo hi ∷ rs) h = (h .0, legal-typed q good patterns rs (h .1))
+legal-typed q good patterns (pattern bits mask ∷ rs) h = (omega (arith, h .0 .3, pow-mono {i = q .width} {j = 32} (good .narrow)), legal-typed q good patterns rs (h .1))
 
 spans-typed : (q : Point) (rs : List Range) → All (SpanOf q) rs → All (Typed q) rs
 spans-typed q [] h = tt
@@ -83,7 +83,7 @@ spans-typed q (span lo hi ∷ rs) h = (h .0, spans-typed q rs (h .1))
 spans-typed q (pattern bits mask ∷ rs) h = absurd (h .0)
 
 form-typed : (q : Point) (good : GoodPoint q) (patterns : Bool) (f : Form) (rs : List Range) → All (Legal q patterns) rs → Divisible q good f rs → All (Typed q) (rowRanges (lowest q) f rs)
-form-typed q good patterns single rs h d = legal-typed q patterns rs h
+form-typed q good patterns single rs h d = legal-typed q good patterns rs h
 form-typed q good patterns perValue rs h d = spans-typed q (rowRanges (lowest q) perValue rs) (settled-spans q (good .narrow) rs d)
 form-typed q good patterns (fixed n) rs h d = spans-typed q rs d
 

@@ -1,6 +1,6 @@
 -- What the rows of a point say, by the model. A part is a cover bin after expansion, or an auto bin; those of point p are `covers t p`.
 -- Assumes nothing.
-use Prim.Native.Nat.{ℕ, _+_, _≤_, _<_}
+use Prim.Native.Nat.{ℕ, _+_, _^_, _≤_, _<_}
 use mathlib.Core.Path.{_≡_}
 use mathlib.Core.Bool.{Bool, true, _&&_}
 use mathlib.Core.List.{List, [], _∷_}
@@ -16,10 +16,10 @@ use Rattle.spans.specs.Point.{rangesListed}
 use Rattle.parts.specs.Rows.{Row, partIn, partsAt}
 use Rattle.parts.specs.Words.{RowFits}
 
--- a span of the type, none empty; or a pattern
+-- a span of the type, none empty; or a pattern whose mask is below 2^33
 abbrev pub Typed : Point → Range → Type 0
 Typed q (span lo hi) = (lowest q ≤ lo) × (lo ≤ hi) × (hi ≤ highest q)
-Typed q (pattern bits mask) = Unit {0}
+Typed q (pattern bits mask) = mask < 2 ^ 33
 
 -- the parts of a row's first and of its last value
 abbrev pub startOf : Row → ℕ → Range → ℕ
