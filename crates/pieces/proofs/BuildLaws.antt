@@ -1,13 +1,12 @@
 -- The words of a point's plan: written, read back, and kept by later writes.
 -- Assumes nothing.
 use mathlib.Core.Path.{_≡_, refl, sym, ap, ap₂, _∙_, subst}
-use mathlib.Core.Bool.{Bool, true, cond}
+use mathlib.Core.Bool.{true}
 use mathlib.Core.List.{List, [], _∷_, _++_}
-use Prim.Native.Nat.{ℕ, suc, _+_, _-_, _*_, _/_, _%_, _^_, _≤_, _<_}
+use Prim.Native.Nat.{ℕ, suc, _+_, _-_, _*_, _/_, _^_, _≤_, _<_}
 use native.Mathlib.Omega.{arith}
 use lib.ListN.{length, getD, set, take, drop, length-take, length-drop, drop-of-length-le}
 use lib.Seq.{getD-drop, getD-take, ext-getD, take-take}
-use borrow.Author.Tests.{lt-ltb, le-ltb}
 use Rattle.model.specs.Lists.{all}
 use Rattle.model.specs.Table.{Range, span, pattern, Table}
 use Rattle.model.specs.Values.{lowest, highest}
@@ -15,7 +14,7 @@ use Rattle.model.specs.Counters.{pointAt}
 use Rattle.model.specs.Format.{accepted, tableOf}
 use Rattle.model.specs.Raw.{rows, recordsPlace, recordCount}
 use Rattle.model.proofs.Lists.{head-tail}
-use Rattle.model.proofs.Readers.{All, all-map}
+use Rattle.model.proofs.Readers.{All, all-both}
 use Rattle.model.proofs.RawLaws.{length-rows}
 use Rattle.arrays.specs.Put.{put}
 use Rattle.arrays.specs.Flat.{covers}
@@ -35,33 +34,38 @@ use Rattle.parts.specs.Words.{planRowAt, planRowsAt}
 use Rattle.parts.specs.Point.{RowsOf}
 use Rattle.parts.proofs.Back.{plan-same}
 use Rattle.parts.proofs.Plans.{take-put}
-use Rattle.pieces.specs.Pieces.{Piece, piece, pieceAt, piecesAt, PiecesOf}
+use Rattle.pieces.specs.Pieces.{Piece, piece, packed, pieceAt, piecesAt, Begins, PiecesOf}
 use Rattle.pieces.specs.Cuts.{allPieces, rangeWords, pieceWords, Cuttable}
 use Rattle.pieces.specs.Plan.{segment, PointPlan, pointNeed}
-use Rattle.pieces.proofs.WordLaws.{words-length}
+use Rattle.pieces.proofs.WordLaws.{span-back, pattern-back, words-length}
 use Rattle.pieces.proofs.PointPieces.{rows-cuttable, pieces-of, pieces-few}
 use Rattle.pieces.proofs.PlanLaws.{pieces-same}
 
 -- ---- read back
 
-abbrev Small : Piece → Type 0
-Small q = q .part < 65536
+-- high end or mask, and part fit the word
+abbrev Narrow : Range → Type 0
+Narrow (span lo hi) = hi < 2 ^ 33
+Narrow (pattern bits mask) = mask < 2 ^ 33
 
-one-back : (R : Range) (k : ℕ) (ws : List ℕ) → k < 65536 → pieceAt (rangeWords R k ++ ws) 0 ≡ piece R k
-one-back (span a b) k ws h = ap₂ (λ (c : Bool) (m : ℕ). piece (cond c (span a b) (pattern a b)) m) (lt-ltb k 65536 h) (let z : k % 65536 ≡ k = omega arith in z)
-one-back (pattern a b) k ws h = ap₂ (λ (c : Bool) (m : ℕ). piece (cond c (span a b) (pattern a b)) m) (le-ltb (k + 65536) 65536 (omega arith)) (let z : (k + 65536) % 65536 ≡ k = omega arith in z)
+abbrev Small : Piece → Type 0
+Small q = Narrow (q .range) × (q .part < 65536)
+
+one-back : (R : Range) (k : ℕ) (ws : List ℕ) → Narrow R → k < 65536 → pieceAt (rangeWords R k ++ ws) 0 ≡ piece R k
+one-back (span a b) k ws n h = span-back a b k n h
+one-back (pattern a b) k ws n h = pattern-back a b k n h
 
 words-back : (qs : List Piece) → All Small qs → piecesAt (pieceWords qs) 0 (length qs) ≡ qs
 unfolding pieceWords rows
 words-back [] h = refl
 words-back (q ∷ qs) h =
-    ap₂ _∷_ (one-back (q .range) (q .part) (pieceWords qs) (h .0)) (pieces-same (length qs) (rangeWords (q .range) (q .part) ++ pieceWords qs) (pieceWords qs) (0 + 3) 0 (λ i k. skip (q .range) i) ∙ words-back qs (h .1))
+    ap₂ _∷_ (one-back (q .range) (q .part) (pieceWords qs) (h .0 .0) (h .0 .1)) (pieces-same (length qs) (rangeWords (q .range) (q .part) ++ pieceWords qs) (pieceWords qs) (0 + 2) 0 (λ i k. skip (q .range) i) ∙ words-back qs (h .1))
   where
-    skip : (R : Range) (i : ℕ) → getD (rangeWords R (q .part) ++ pieceWords qs) (0 + 3 + i) 0 ≡ getD (pieceWords qs) (0 + i) 0
-    skip (span a b) i = ap (λ (x : ℕ). getD (a ∷ b ∷ q .part ∷ pieceWords qs) x 0) (let z : 0 + 3 + i ≡ suc (suc (suc i)) = omega arith in z) ∙ ap (λ (x : ℕ). getD (pieceWords qs) x 0) (let z : i ≡ 0 + i = omega arith in z)
-    skip (pattern a b) i = ap (λ (x : ℕ). getD (a ∷ b ∷ (q .part + 65536) ∷ pieceWords qs) x 0) (let z : 0 + 3 + i ≡ suc (suc (suc i)) = omega arith in z) ∙ ap (λ (x : ℕ). getD (pieceWords qs) x 0) (let z : i ≡ 0 + i = omega arith in z)
+    skip : (R : Range) (i : ℕ) → getD (rangeWords R (q .part) ++ pieceWords qs) (0 + 2 + i) 0 ≡ getD (pieceWords qs) (0 + i) 0
+    skip (span a b) i = ap (λ (x : ℕ). getD (a ∷ packed b (q .part) ∷ pieceWords qs) x 0) (let z : 0 + 2 + i ≡ suc (suc i) = omega arith in z) ∙ ap (λ (x : ℕ). getD (pieceWords qs) x 0) (let z : i ≡ 0 + i = omega arith in z)
+    skip (pattern a b) i = ap (λ (x : ℕ). getD (a ∷ packed b (q .part + 65536) ∷ pieceWords qs) x 0) (let z : 0 + 2 + i ≡ suc (suc i) = omega arith in z) ∙ ap (λ (x : ℕ). getD (pieceWords qs) x 0) (let z : i ≡ 0 + i = omega arith in z)
 
-pub pieces-back : (qs : List Piece) → All Small qs → (at : ℕ) (l : List ℕ) → at + 3 * length qs ≤ length l → piecesAt (put at (pieceWords qs) l) at (length qs) ≡ qs
+pub pieces-back : (qs : List Piece) → All Small qs → (at : ℕ) (l : List ℕ) → at + 2 * length qs ≤ length l → piecesAt (put at (pieceWords qs) l) at (length qs) ≡ qs
 pieces-back qs h at l fit =
     pieces-same (length qs) (put at (pieceWords qs) l) (pieceWords qs) at 0
     (λ i k. put-in at (pieceWords qs) l i 0 (omega arith) (omega (arith, words-length qs)) ∙ ap (λ (x : ℕ). getD (pieceWords qs) x 0) (let z : i ≡ 0 + i = omega arith in z))
@@ -91,7 +95,7 @@ plan-kept t p w w′ from mid cuts to c o h el e =
       rowsOf = subst (λ (x : List ℕ). RowsOf t p (planRowsAt x 0 ((mid - from) / 7)) (length (covers t p))) (same from mid (o .order) (omega (arith, o .order₁, o .order₂))) (o .rowsOf);
       whole = o .whole;
       spans = subst (SpansOf t p) (same mid cuts (o .order₁) (o .order₂)) (o .spans);
-      pieces = subst (PiecesOf t p) (pieces-same ((to - cuts) / 3) w w′ cuts cuts (λ i k. sym (below (cuts + i) (omega (arith, o .order₂))))) (o .pieces);
+      pieces = subst (PiecesOf t p) (pieces-same ((to - cuts) / 2) w w′ cuts cuts (λ i k. sym (below (cuts + i) (omega (arith, o .order₂))))) (o .pieces);
     }
   where
     below : (i : ℕ) → i < to → getD w′ i 0 ≡ getD w i 0
@@ -134,17 +138,17 @@ module _ (t : Table) (p m at n : ℕ) (l : List ℕ) (rowsOf : RowsOf t p (planR
     same-pieces = ap (allPieces (freeValue ws low)) same-rows
 
     -- there is room for the pieces
-    pub pieces-room : cuts + 3 * length (allPieces (freeValue ws low) (planRowsAt l₁ at n)) ≤ length l₁
+    pub pieces-room : cuts + 2 * length (allPieces (freeValue ws low) (planRowsAt l₁ at n)) ≤ length l₁
     pieces-room = omega (arith, ap length same-pieces, long₁, pieces-number, number)
 
-    module _ (to : ℕ) (l₂ : List ℕ) (et : to ≡ cuts + 3 * length (allPieces (freeValue ws low) (planRowsAt l₁ at n))) (e₂ : l₂ ≡ put cuts (pieceWords (allPieces (freeValue ws low) (planRowsAt l₁ at n))) l₁) where
-      end : to ≡ cuts + 3 * length qs
-      end = et ∙ ap (λ (x : List Piece). cuts + 3 * length x) same-pieces
+    module _ (to : ℕ) (l₂ : List ℕ) (et : to ≡ cuts + 2 * length (allPieces (freeValue ws low) (planRowsAt l₁ at n))) (e₂ : l₂ ≡ put cuts (pieceWords (allPieces (freeValue ws low) (planRowsAt l₁ at n))) l₁) where
+      end : to ≡ cuts + 2 * length qs
+      end = et ∙ ap (λ (x : List Piece). cuts + 2 * length x) same-pieces
 
       written : l₂ ≡ put cuts (pieceWords qs) l₁
       written = e₂ ∙ ap (λ (x : List Piece). put cuts (pieceWords x) l₁) same-pieces
 
-      fit : cuts + 3 * length qs ≤ length l₁
+      fit : cuts + 2 * length qs ≤ length l₁
       fit = omega (arith, pieces-room, ap length same-pieces)
 
       long₂ : length l₂ ≡ length l₁
@@ -174,14 +178,21 @@ module _ (t : Table) (p m at n : ℕ) (l : List ℕ) (rowsOf : RowsOf t p (planR
       whole : PiecesOf t p qs
       whole = subst (λ (x : ℕ). PiecesOf t p (allPieces (freeValue ws x) (planRowsAt l at n))) (sym el) (pieces-of t p m (planRowsAt l at n) ws rowsOf o)
 
-      third : piecesAt l₂ cuts ((to - cuts) / 3) ≡ qs
-      third =
-          let z : (to - cuts) / 3 ≡ length qs = omega (arith, end) in
-          ap₂ (λ (x : List ℕ) (k : ℕ). piecesAt x cuts k) written z
-          ∙ pieces-back qs (all-map (λ q. q .part < length (covers t p)) Small (λ q h. omega (arith, h, rowsOf .parts)) qs (whole .parts)) cuts l₁ fit
+      small : highest (pointAt t p) < 2 ^ 33 → All Small qs
+      small h = all-both (λ q. Begins t p (q .range)) (λ q. q .part < length (covers t p)) Small (λ q b k. (narrow (q .range) b, omega (arith, k, rowsOf .parts))) qs (whole .begins) (whole .parts)
+        where
+          narrow : (R : Range) → Begins t p R → Narrow R
+          narrow (span a b) s = omega (arith, s .3, h)
+          narrow (pattern a b) s = s
 
-      pub planned : PointPlan t p l₂ at mid cuts to
-      planned =
+      third : highest (pointAt t p) < 2 ^ 33 → piecesAt l₂ cuts ((to - cuts) / 2) ≡ qs
+      third h =
+          let z : (to - cuts) / 2 ≡ length qs = omega (arith, end) in
+          ap₂ (λ (x : List ℕ) (k : ℕ). piecesAt x cuts k) written z
+          ∙ pieces-back qs (small h) cuts l₁ fit
+
+      pub planned : highest (pointAt t p) < 2 ^ 33 → PointPlan t p l₂ at mid cuts to
+      planned h =
           record {
             order = omega arith;
             order₁ = omega arith;
@@ -190,7 +201,7 @@ module _ (t : Table) (p m at n : ℕ) (l : List ℕ) (rowsOf : RowsOf t p (planR
             rowsOf = subst (λ (xs : List Row). RowsOf t p xs (length (covers t p))) (sym first) (subst (RowsOf t p (planRowsAt l at n)) (rowsOf .parts) rowsOf);
             whole = omega arith;
             spans = subst (SpansOf t p) (sym second) o;
-            pieces = subst (PiecesOf t p) (sym third) whole;
+            pieces = subst (PiecesOf t p) (sym (third h)) whole;
           }
 
       pub kept-below : take at l₂ ≡ take at l

@@ -1,9 +1,9 @@
 -- The pieces that are cut from a row hold, of the values that are left, exactly those that the row's rule gives to their parts.
 -- Assumes nothing.
 use mathlib.Core.Path.{_≡_, refl, sym, ap, ap₂, _∙_}
-use mathlib.Core.Bool.{Bool, true, false, not, _&&_, _||_, cond}
+use mathlib.Core.Bool.{Bool, true, false, _&&_, _||_, cond}
 use mathlib.Core.List.{List, [], _∷_, _++_}
-use Prim.Native.Nat.{ℕ, zero, suc, _+_, _-_, _*_, _/_, _≤_, _<_, min}
+use Prim.Native.Nat.{ℕ, zero, suc, _+_, _-_, _*_, _/_, _≤_, _<_}
 use native.Mathlib.Nat.{le-div-iff-mul-le, div-lt-iff-lt-mul}
 use native.Mathlib.Omega.{arith}
 use lib.Dec.{leb, ltb, eqb}
@@ -12,7 +12,7 @@ use Rattle.model.specs.Lists.{any}
 use Rattle.model.specs.Table.{span}
 use Rattle.model.proofs.Booleans.{false-true, and-left, and-right, or-right}
 use Rattle.pieces.specs.Pieces.{Piece, piece, pieceHolds}
-use Rattle.pieces.specs.Cuts.{leftOf, stepAt, cutLow, cutHigh, cutsFrom}
+use Rattle.pieces.specs.Cuts.{stepAt, cutLow, cutHigh, cutsFrom}
 
 -- f finds the first number from y up that is not excluded, where that is at most `high`
 pub record Finds (low high : ℕ) (out : ℕ → Bool) (f : ℕ → ℕ) : Type 0 where

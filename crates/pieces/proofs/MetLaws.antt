@@ -2,10 +2,10 @@
 -- Assumes nothing.
 use mathlib.Core.Path.{_≡_, refl, sym, ap, ap₂, _∙_}
 use mathlib.Core.Bool.{Bool, true, false, not, _&&_, _||_, cond}
-use mathlib.Core.List.{List, [], _∷_, map}
-use Prim.Native.Nat.{ℕ, zero, suc, _+_, _-_, _*_, _/_, _^_, _≤_, _<_, max}
+use mathlib.Core.List.{List, [], _∷_}
+use Prim.Native.Nat.{ℕ, suc, _+_, _-_, _/_, _^_, _≤_, _<_}
 use native.Mathlib.Omega.{arith}
-use lib.Dec.{leb, ltb, eqb}
+use lib.Dec.{leb, eqb}
 use lib.ListN.{length, getD, take, drop, length-take, length-drop}
 use lib.Pow.{pow-pos}
 use borrow.Rule.Slice.PartMut.{putMid}
@@ -159,7 +159,7 @@ pub lent-length : {A : Type 0} (at n : ℕ) (l : List A) → at + n ≤ length l
 lent-length at n l h = simp (length-take, length-drop) (omega arith)
 
 pub answered : (t : Table) (p : ℕ) (ws words : List ℕ) (low lo hi parts at : ℕ) (out ys : List ℕ) → Asked t p ws words low lo hi parts → at + parts ≤ length out
-    → ys ≡ metFlags (freeValue ws low) lo hi (piecesAt words 0 (length words / 3)) (length (take (at + parts - at) (drop at out))) → putMid at (at + parts - at) out ys ≡ put at (metBits t p lo hi) out
+    → ys ≡ metFlags (freeValue ws low) lo hi (piecesAt words 0 (length words / 2)) (length (take (at + parts - at) (drop at out))) → putMid at (at + parts - at) out ys ≡ put at (metBits t p lo hi) out
 answered t p ws words low lo hi parts at out ys o fit e =
     part-back at parts out ys (ap length e ∙ number ∙ lent-length at parts out fit)
     ∙ ap (λ (xs : List ℕ). put at xs out)
@@ -171,7 +171,7 @@ answered t p ws words low lo hi parts at out ys o fit e =
     (leb-true hi (highest (pointAt t p)) (and-right (leb (lowest (pointAt t p)) hi) (leb hi (highest (pointAt t p))) (o .to))))
   where
     qs : List Piece
-    qs = piecesAt words 0 (length words / 3)
+    qs = piecesAt words 0 (length words / 2)
 
     number : length (metFlags (freeValue ws low) lo hi qs (length (take (at + parts - at) (drop at out)))) ≡ length (take (at + parts - at) (drop at out))
     number = unfold metFlags in (length-row (λ j. asBit (oneOf j (metParts (freeValue ws low) lo hi qs))) 0 (length (take (at + parts - at) (drop at out))))

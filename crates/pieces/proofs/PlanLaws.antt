@@ -2,17 +2,17 @@
 -- Assumes nothing.
 use mathlib.Core.Path.{_≡_, refl, sym, ap, ap₂, _∙_, subst}
 use mathlib.Core.Bool.{Bool, true, false, _&&_, cond}
-use mathlib.Core.List.{List, [], _∷_, _++_, map}
-use Prim.Native.Nat.{ℕ, zero, suc, _+_, _-_, _*_, _/_, _%_, _^_, _≤_, _<_}
+use mathlib.Core.List.{List, _∷_, map}
+use Prim.Native.Nat.{ℕ, zero, suc, _+_, _-_, _*_, _/_, _^_, _≤_, _<_}
 use native.Mathlib.Omega.{arith}
 use lib.Dec.{leb, ltb}
 use lib.ListN.{length, getD, take, drop, length-take, length-drop, length-map}
-use lib.Seq.{getD-drop, getD-take, ext-getD}
+use lib.Seq.{getD-drop, getD-take}
 use borrow.Author.Tests.{leb-true, le-leb, ltb-true, ltb-false}
-use Rattle.model.specs.Lists.{upFrom, asBit}
+use Rattle.model.specs.Lists.{asBit}
 use Rattle.model.specs.Table.{Point, Table}
 use Rattle.model.specs.Values.{lowest, highest, inType}
-use Rattle.model.specs.Counters.{CoverBin, noCoverBin, pointCounters, pointAt, pointOf, meets, hasValue}
+use Rattle.model.specs.Counters.{noCoverBin, pointCounters, pointAt, pointOf, meets}
 use Rattle.model.specs.Format.{pointRecord, accepted, tableOf, byte, u16}
 use Rattle.model.specs.Register.{pointTotal}
 use Rattle.model.specs.Raw.{rows, countPlace, recordCount, recordsPlace}
@@ -29,7 +29,7 @@ use Rattle.arrays.proofs.PutLaws.{put-in, put-before}
 use Rattle.arrays.specs.Flat.{covers, coverCounts}
 use Rattle.values.proofs.PointExact.{point-raw, few-counters}
 use Rattle.values.proofs.Ready.{wide}
-use Rattle.pieces.specs.Pieces.{Piece, piece, pieceAt, piecesAt, PiecesOf, metBit, metBits, hasBit, hasBits}
+use Rattle.pieces.specs.Pieces.{pieceBy, piecesAt, PiecesOf, metBit, metBits, hasBit, hasBits}
 use Rattle.pieces.specs.Met.{PartBelow, Asked}
 use Rattle.pieces.specs.Plan.{segment, PointPlan, ValuesPlan}
 use Rattle.pieces.proofs.MetLaws.{has-meets}
@@ -37,15 +37,15 @@ use Rattle.pieces.proofs.MetLaws.{has-meets}
 -- ---- pieces in an array
 
 -- they are what the words say
-pub pieces-same : (n : ℕ) (u w : List ℕ) (x y : ℕ) → ((i : ℕ) → i < 3 * n → getD u (x + i) 0 ≡ getD w (y + i) 0) → piecesAt u x n ≡ piecesAt w y n
+pub pieces-same : (n : ℕ) (u w : List ℕ) (x y : ℕ) → ((i : ℕ) → i < 2 * n → getD u (x + i) 0 ≡ getD w (y + i) 0) → piecesAt u x n ≡ piecesAt w y n
 unfolding rows
 pieces-same zero u w x y h = refl
 pieces-same (suc n) u w x y h =
-    ap₂ _∷_ (one at (h 1 (omega arith)) (h 2 (omega arith)))
-    (pieces-same n u w (x + 3) (y + 3) λ i k.
-    let p : x + 3 + i ≡ x + (3 + i) = omega arith in
-    let q : y + (3 + i) ≡ y + 3 + i = omega arith in
-    ap (λ (j : ℕ). getD u j 0) p ∙ h (3 + i) (omega arith) ∙ ap (λ (j : ℕ). getD w j 0) q)
+    ap₂ _∷_ (ap₂ pieceBy at (h 1 (omega arith)))
+    (pieces-same n u w (x + 2) (y + 2) λ i k.
+    let p : x + 2 + i ≡ x + (2 + i) = omega arith in
+    let q : y + (2 + i) ≡ y + 2 + i = omega arith in
+    ap (λ (j : ℕ). getD u j 0) p ∙ h (2 + i) (omega arith) ∙ ap (λ (j : ℕ). getD w j 0) q)
   where
     at : getD u x 0 ≡ getD w y 0
     at =
@@ -53,15 +53,12 @@ pieces-same (suc n) u w x y h =
         let q : y + 0 ≡ y = omega arith in
         ap (λ (j : ℕ). getD u j 0) p ∙ h 0 (omega arith) ∙ ap (λ (j : ℕ). getD w j 0) q
 
-    one : getD u x 0 ≡ getD w y 0 → getD u (x + 1) 0 ≡ getD w (y + 1) 0 → getD u (x + 2) 0 ≡ getD w (y + 2) 0 → pieceAt u x ≡ pieceAt w y
-    one a b c = rw (a, b, c)
-
 -- those of a part of the array
-pub part-pieces : (w : List ℕ) (mid to : ℕ) → mid ≤ to → to ≤ length w → piecesAt (segment w mid to) 0 (length (segment w mid to) / 3) ≡ piecesAt w mid ((to - mid) / 3)
+pub part-pieces : (w : List ℕ) (mid to : ℕ) → mid ≤ to → to ≤ length w → piecesAt (segment w mid to) 0 (length (segment w mid to) / 2) ≡ piecesAt w mid ((to - mid) / 2)
 part-pieces w mid to h k =
     let long : length (take (to - mid) (drop mid w)) ≡ to - mid = simp (length-take, length-drop) (omega arith) in
-    ap (λ (n : ℕ). piecesAt (segment w mid to) 0 (n / 3)) long
-    ∙ pieces-same ((to - mid) / 3) (segment w mid to) w 0 mid λ i j.
+    ap (λ (n : ℕ). piecesAt (segment w mid to) 0 (n / 2)) long
+    ∙ pieces-same ((to - mid) / 2) (segment w mid to) w 0 mid λ i j.
     let z : 0 + i ≡ i = omega arith in
     let m : i < to - mid = omega arith in
     ap (λ (x : ℕ). getD (segment w mid to) x 0) z ∙ rw (getD-take, getD-drop)
@@ -84,8 +81,8 @@ high-is s point low width power el ew ea = ap₂ (λ (x y : ℕ). x + y - 1) el 
 -- ---- asked
 
 -- what `put_met` asks of a planned point
-pub plan-parts : (t : Table) (p : ℕ) (w : List ℕ) (from mid cuts to parts : ℕ) → PointPlan t p w from mid cuts to → parts ≡ length (covers t p) → All (PartBelow parts) (piecesAt (segment w cuts to) 0 (length (segment w cuts to) / 3))
-plan-parts t p w from mid cuts to parts o e = subst (All (PartBelow parts)) (sym (part-pieces w cuts to (o .order₂) (o .order₃))) (subst (λ (m : ℕ). All (PartBelow m) (piecesAt w cuts ((to - cuts) / 3))) (sym e) (o .pieces .parts))
+pub plan-parts : (t : Table) (p : ℕ) (w : List ℕ) (from mid cuts to parts : ℕ) → PointPlan t p w from mid cuts to → parts ≡ length (covers t p) → All (PartBelow parts) (piecesAt (segment w cuts to) 0 (length (segment w cuts to) / 2))
+plan-parts t p w from mid cuts to parts o e = subst (All (PartBelow parts)) (sym (part-pieces w cuts to (o .order₂) (o .order₃))) (subst (λ (m : ℕ). All (PartBelow m) (piecesAt w cuts ((to - cuts) / 2))) (sym e) (o .pieces .parts))
 
 pub plan-asked : (t : Table) (p : ℕ) (w : List ℕ) (from mid cuts to low lo hi parts : ℕ) → PointPlan t p w from mid cuts to → low ≡ lowest (pointAt t p) → inType (pointAt t p) lo ≡ true → inType (pointAt t p) hi ≡ true
     → parts ≡ length (covers t p) → Asked t p (segment w mid cuts) (segment w cuts to) low lo hi parts

@@ -3,16 +3,16 @@
 use mathlib.Core.Path.{_≡_, refl, sym, ap, ap₂, _∙_}
 use mathlib.Core.Bool.{Bool, true, false, not, _&&_, _||_, cond}
 use mathlib.Core.List.{List, [], _∷_, _++_}
-use Prim.Native.Nat.{ℕ, zero, suc, _+_, _-_, _*_, _/_, _^_, _≤_, _<_, min}
+use Prim.Native.Nat.{ℕ, zero, suc, _+_, _-_, _^_, _≤_, _<_}
 use native.Mathlib.Omega.{arith}
-use lib.Dec.{leb, ltb, eqb}
+use lib.Dec.{leb, eqb}
 use lib.ListN.{length, getD, length-append}
 use borrow.Author.Tests.{leb-true, le-leb, eqb-true, eq-eqb}
 use Rattle.model.specs.Lists.{any, oneOf}
 use Rattle.model.specs.Table.{Range, span, pattern, Table}
-use Rattle.model.specs.Values.{lowest, highest, inType, inRange}
-use Rattle.model.specs.Counters.{CoverBin, noCoverBin, pointAt, pointOf, excludedValue, distributed, holds}
-use Rattle.model.proofs.Booleans.{false-true, and-left, and-right, or-right, bool-eq}
+use Rattle.model.specs.Values.{lowest, highest, inRange}
+use Rattle.model.specs.Counters.{noCoverBin, pointAt, pointOf, excludedValue, distributed, holds}
+use Rattle.model.proofs.Booleans.{false-true, and-left, and-right, bool-eq}
 use Rattle.model.proofs.Readers.{All, all-append, all-map, all-both}
 use Rattle.model.proofs.Selects.{own-covers}
 use Rattle.ranges.proofs.Searches.{any-append}
@@ -128,7 +128,7 @@ module _ (t : Table) (p : ℕ) (f : ℕ → ℕ) (finds : Finds (lowest (pointAt
       one : (R : Range) → Typed (pointAt t p) R → All (Sound m) (piecesIn f r R)
       one (span lo hi) h =
           cuts-begin m r (fit .0) lo hi h _ _ (omega (arith, step-rises (r .before) (r .share) (r .last) (fit .0 .share) 0 (hi - lo) (omega arith)))
-      one (pattern bits mask) h = ((tt, omega (arith, fit .0 .room)), tt)
+      one (pattern bits mask) h = ((h, omega (arith, fit .0 .room)), tt)
 
   pieces-by : (m : ℕ) (rs : List Row) → RowsOf t p rs m → PiecesOf t p (allPieces f rs)
   unfolding holds
@@ -181,7 +181,7 @@ rows-cuttable t p m rs o few high = all-both (RowFits m) (λ r. Typed (pointAt t
   where
     bounds : (R : Range) → Typed (pointAt t p) R → Bounded (lowest (pointAt t p)) R
     bounds (span lo hi) h = (h .0, h .1, omega (arith, h .2, high))
-    bounds (pattern bits mask) h = tt
+    bounds (pattern bits mask) h = h
 
     one : (r : Row) → RowFits m r → Typed (pointAt t p) (r .range) → Cuttable (lowest (pointAt t p)) r
     one r fit typed = record { before = fit .before; share = fit .share; room = omega (arith, fit .room, few); bounds = bounds (r .range) typed }

@@ -1,32 +1,33 @@
 -- Laws for the code that asks the pieces: the search in a pattern, one piece, and the pieces that are left.
 -- Assumes nothing.
 use mathlib.Core.Path.{_≡_, refl, sym, ap, ap₂, _∙_}
-use mathlib.Core.Bool.{Bool, true, false, not, _&&_, _||_, cond}
-use mathlib.Core.List.{List, [], _∷_}
-use Prim.Native.Nat.{ℕ, zero, suc, _+_, _-_, _*_, _%_, _≤_, _<_, max}
+use mathlib.Core.Bool.{Bool, true, false, _&&_, cond}
+use mathlib.Core.List.{List, _∷_}
+use Prim.Native.Nat.{ℕ, suc, _+_, _-_, _*_, _/_, _^_, _≤_, _<_, max}
 use native.Mathlib.Omega.{arith}
 use lib.Dec.{leb, ltb, eqb}
 use lib.Bits.{bitAnd, and-zero-l}
 use lib.ListN.{length, getD, set, replicate}
 use borrow.Author.Tests.{leb-true, leb-false, le-leb, lt-ltb, le-ltb, ltb-true, ltb-false, eqb-true, eq-eqb, ne-eqb}
 use Rattle.model.specs.Lists.{upFrom, any}
-use Rattle.model.specs.Table.{Range, span, pattern}
+use Rattle.model.specs.Table.{span, pattern}
 use Rattle.model.specs.Values.{bias, inRange}
-use Rattle.model.specs.Ranges.{patternFrom, nextInRange}
+use Rattle.model.specs.Ranges.{patternFrom}
 use Rattle.model.specs.Raw.{rows}
-use Rattle.model.proofs.Booleans.{false-true, and-left, and-right, bool-eq}
+use Rattle.model.proofs.Booleans.{false-true, bool-eq}
 use Rattle.model.proofs.Lists.{none-left, one-left}
 use Rattle.model.proofs.NextValue.{pattern-ge, pattern-least}
 use Rattle.model.proofs.Searches.{any-from-some, some-any-from}
 use Rattle.arrays.specs.Put.{put}
-use Rattle.spans.specs.Spans.{heldBy, apart, free, Least}
+use Rattle.spans.specs.Spans.{heldBy, apart, free}
 use Rattle.spans.specs.Point.{freeValue}
 use Rattle.spans.proofs.LookLaws.{free-least}
 use Rattle.parts.specs.Rows.{raiseAll}
 use Rattle.parts.proofs.FlagLaws.{raised-row}
 use Rattle.parts.proofs.RaiseLaws.{cleared}
-use Rattle.pieces.specs.Pieces.{Piece, pieceAt, piecesAt}
+use Rattle.pieces.specs.Pieces.{Piece, highIn, partOf, pieceAt, piecesAt}
 use Rattle.pieces.specs.Met.{leftIn, patternMet, isMet, reachEnd, metParts, metOne, metFlags, nextFit}
+use Rattle.pieces.proofs.WordLaws.{below-part}
 
 -- ---- the next value that fits
 
@@ -166,32 +167,33 @@ reached a b hi x = go (leb x hi)
     go false = none (ltb a 0) (leb x b) (ap (_&& leb x b) (le-ltb a 0 (omega arith)))
 
 module _ (f : ℕ → ℕ) (lo hi : ℕ) (w : List ℕ) (at : ℕ) where
-  span-met : (from end a b k : ℕ) → from ≡ f lo → end ≡ reachEnd from hi → a ≡ getD w at 0 → b ≡ getD w (at + 1) 0 → k ≡ getD w (at + 2) 0 → k < 65536
-      → (ltb a end && leb from b) ≡ isMet f lo hi (pieceAt w at .range)
-  span-met from end a b k ef ee ea eb ek h =
-      ap (λ (e : ℕ). ltb a e && leb from b) ee
-      ∙ reached a b hi from
-      ∙ rw (ef, ea, eb) (sym (ap (λ (c : Bool). isMet f lo hi (cond c (span (getD w at 0) (getD w (at + 1) 0)) (pattern (getD w at 0) (getD w (at + 1) 0)))) (lt-ltb (getD w (at + 2) 0) 65536 (omega arith))))
+  abbrev first : ℕ
+  first = getD w at 0
 
-  pub pattern-piece : (a b k : ℕ) (y : Bool) → a ≡ getD w at 0 → b ≡ getD w (at + 1) 0 → k ≡ getD w (at + 2) 0 → 65536 ≤ k → y ≡ patternMet f a b lo hi → y ≡ isMet f lo hi (pieceAt w at .range)
-  pattern-piece a b k y ea eb ek h e =
-      e ∙ ap₂ (λ (x z : ℕ). patternMet f x z lo hi) ea eb
-      ∙ sym (ap (λ (c : Bool). isMet f lo hi (cond c (span (getD w at 0) (getD w (at + 1) 0)) (pattern (getD w at 0) (getD w (at + 1) 0)))) (le-ltb (getD w (at + 2) 0) 65536 (omega arith)))
+  abbrev second : ℕ
+  second = getD w (at + 1) 0
 
-  pub span-one : (from end a b k : ℕ) (l l′ : List ℕ) → from ≡ f lo → end ≡ reachEnd from hi → a ≡ getD w at 0 → b ≡ getD w (at + 1) 0 → k ≡ getD w (at + 2) 0 → k < 65536
-      → l′ ≡ cond (ltb a end && leb from b) (set l k 1) l → l′ ≡ metOne f lo hi (pieceAt w at) l
+  span-met : (from end : ℕ) → from ≡ f lo → end ≡ reachEnd from hi → second < 2 ^ 49 → (ltb first end && leb from (highIn second)) ≡ isMet f lo hi (pieceAt w at .range)
+  span-met from end ef ee h =
+      ap (λ (e : ℕ). ltb first e && leb from (highIn second)) ee
+      ∙ reached first (highIn second) hi from
+      ∙ rw ef (sym (ap (λ (c : Bool). isMet f lo hi (cond c (span first (highIn second)) (pattern first (highIn second)))) (lt-ltb second (2 ^ 49) h)))
+
+  pub pattern-piece : (y : Bool) → 2 ^ 49 ≤ second → y ≡ patternMet f first (highIn second) lo hi → y ≡ isMet f lo hi (pieceAt w at .range)
+  pattern-piece y h e = e ∙ sym (ap (λ (c : Bool). isMet f lo hi (cond c (span first (highIn second)) (pattern first (highIn second)))) (le-ltb second (2 ^ 49) h))
+
+  pub span-one : (from end : ℕ) (l l′ : List ℕ) → from ≡ f lo → end ≡ reachEnd from hi → second < 2 ^ 49 → l′ ≡ cond (ltb first end && leb from (highIn second)) (set l (second / 2 ^ 33) 1) l → l′ ≡ metOne f lo hi (pieceAt w at) l
   unfolding metOne
-  span-one from end a b k l l′ ef ee ea eb ek h e =
-      e ∙ ap₂ (λ (c : Bool) (j : ℕ). cond c (set l j 1) l) (span-met from end a b k ef ee ea eb ek h) (let z : k ≡ getD w (at + 2) 0 % 65536 = omega arith in z)
+  span-one from end l l′ ef ee h e = e ∙ ap₂ (λ (c : Bool) (j : ℕ). cond c (set l j 1) l) (span-met from end ef ee h) (below-part second h)
 
   module _ (l : List ℕ) (y : Bool) (e : y ≡ isMet f lo hi (pieceAt w at .range)) where
     pub met-off : y ≡ false → l ≡ metOne f lo hi (pieceAt w at) l
     unfolding metOne
-    met-off z = sym (ap (λ (b : Bool). cond b (set l (getD w (at + 2) 0 % 65536) 1) l) (sym e ∙ z))
+    met-off z = sym (ap (λ (b : Bool). cond b (set l (partOf second) 1) l) (sym e ∙ z))
 
-    pub met-on : (k : ℕ) → y ≡ true → k ≡ getD w (at + 2) 0 % 65536 → set l k 1 ≡ metOne f lo hi (pieceAt w at) l
+    pub met-on : (k : ℕ) → y ≡ true → k ≡ partOf second → set l k 1 ≡ metOne f lo hi (pieceAt w at) l
     unfolding metOne
-    met-on k z q = ap (λ (b : ℕ). set l b 1) q ∙ sym (ap (λ (b : Bool). cond b (set l (getD w (at + 2) 0 % 65536) 1) l) (sym e ∙ z))
+    met-on k z q = ap (λ (b : ℕ). set l b 1) q ∙ sym (ap (λ (b : Bool). cond b (set l (partOf second) 1) l) (sym e ∙ z))
 
 -- ---- the pieces that are left
 
@@ -204,23 +206,23 @@ met-step f lo hi q qs l = go (isMet f lo hi (q .range))
     go false = refl
 
 module _ (f : ℕ → ℕ) (lo hi : ℕ) (w : List ℕ) (n : ℕ) where
-  pub met-start : (l : List ℕ) → raiseAll (metParts f lo hi (piecesAt w (3 * 0) (n - 0))) l ≡ raiseAll (metParts f lo hi (piecesAt w 0 n)) l
-  met-start l = ap₂ (λ (a m : ℕ). raiseAll (metParts f lo hi (piecesAt w a m)) l) (let z : 3 * 0 ≡ 0 = omega arith in z) (let z : n - 0 ≡ n = omega arith in z)
+  pub met-start : (l : List ℕ) → raiseAll (metParts f lo hi (piecesAt w (2 * 0) (n - 0))) l ≡ raiseAll (metParts f lo hi (piecesAt w 0 n)) l
+  met-start l = ap₂ (λ (a m : ℕ). raiseAll (metParts f lo hi (piecesAt w a m)) l) (let z : 2 * 0 ≡ 0 = omega arith in z) (let z : n - 0 ≡ n = omega arith in z)
 
-  pub met-turn : (i : ℕ) (l l′ : List ℕ) → i < n → l′ ≡ metOne f lo hi (pieceAt w (3 * i)) l
-      → raiseAll (metParts f lo hi (piecesAt w (3 * (i + 1)) (n - (i + 1)))) l′ ≡ raiseAll (metParts f lo hi (piecesAt w (3 * i) (n - i))) l
+  pub met-turn : (i : ℕ) (l l′ : List ℕ) → i < n → l′ ≡ metOne f lo hi (pieceAt w (2 * i)) l
+      → raiseAll (metParts f lo hi (piecesAt w (2 * (i + 1)) (n - (i + 1)))) l′ ≡ raiseAll (metParts f lo hi (piecesAt w (2 * i) (n - i))) l
   unfolding rows
   met-turn i l l′ h e =
-      ap (raiseAll (metParts f lo hi (piecesAt w (3 * (i + 1)) (n - (i + 1))))) e
-      ∙ met-step f lo hi (pieceAt w (3 * i)) (piecesAt w (3 * (i + 1)) (n - (i + 1))) l
-      ∙ ap (λ (a : ℕ). raiseAll (metParts f lo hi (pieceAt w (3 * i) ∷ piecesAt w a (n - (i + 1)))) l) (let z : 3 * (i + 1) ≡ 3 * i + 3 = omega arith in z)
-      ∙ ap (λ (m : ℕ). raiseAll (metParts f lo hi (piecesAt w (3 * i) m)) l) (sym (one-left n i h))
+      ap (raiseAll (metParts f lo hi (piecesAt w (2 * (i + 1)) (n - (i + 1))))) e
+      ∙ met-step f lo hi (pieceAt w (2 * i)) (piecesAt w (2 * (i + 1)) (n - (i + 1))) l
+      ∙ ap (λ (a : ℕ). raiseAll (metParts f lo hi (pieceAt w (2 * i) ∷ piecesAt w a (n - (i + 1)))) l) (let z : 2 * (i + 1) ≡ 2 * i + 2 = omega arith in z)
+      ∙ ap (λ (m : ℕ). raiseAll (metParts f lo hi (piecesAt w (2 * i) m)) l) (sym (one-left n i h))
 
-  pub met-end : (i : ℕ) (l : List ℕ) → n ≤ i → raiseAll (metParts f lo hi (piecesAt w (3 * i) (n - i))) l ≡ l
+  pub met-end : (i : ℕ) (l : List ℕ) → n ≤ i → raiseAll (metParts f lo hi (piecesAt w (2 * i) (n - i))) l ≡ l
   unfolding rows metParts raiseAll
-  met-end i l h = ap (λ (m : ℕ). raiseAll (metParts f lo hi (piecesAt w (3 * i) m)) l) (none-left n i h)
+  met-end i l h = ap (λ (m : ℕ). raiseAll (metParts f lo hi (piecesAt w (2 * i) m)) l) (none-left n i h)
 
-  pub met-none : (i : ℕ) (l : List ℕ) → n ≤ i → raiseAll (metParts f lo hi (piecesAt w (3 * n) (n - n))) l ≡ raiseAll (metParts f lo hi (piecesAt w (3 * i) (n - i))) l
+  pub met-none : (i : ℕ) (l : List ℕ) → n ≤ i → raiseAll (metParts f lo hi (piecesAt w (2 * n) (n - n))) l ≡ raiseAll (metParts f lo hi (piecesAt w (2 * i) (n - i))) l
   met-none i l h = met-end n l (omega arith) ∙ sym (met-end i l h)
 
   pub met-all : (l l₁ l₂ : List ℕ) → l₁ ≡ put 0 (replicate (length l) 0) l → l₂ ≡ raiseAll (metParts f lo hi (piecesAt w 0 n)) l₁ → l₂ ≡ metFlags f lo hi (piecesAt w 0 n) (length l)

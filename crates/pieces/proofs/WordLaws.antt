@@ -1,25 +1,48 @@
--- Laws for the code that writes pieces: what one cut, one row and the rows that are left stand for in words.
+-- Laws for the code that writes pieces: a piece's words read back, and what one cut, one row and the rows that are left stand for in words.
 -- Assumes nothing.
 use mathlib.Core.Path.{_≡_, refl, sym, ap, ap₂, _∙_, subst}
-use mathlib.Core.Bool.{Bool, true, false, cond}
+use mathlib.Core.Bool.{Bool, cond}
 use mathlib.Core.List.{List, [], _∷_, _++_}
-use Prim.Native.Nat.{ℕ, zero, suc, _+_, _-_, _*_, _/_, _%_, _^_, _≤_, _<_, min}
+use Prim.Native.Nat.{ℕ, suc, _+_, _-_, _*_, _/_, _%_, _^_, _≤_, _<_, min}
 use native.Mathlib.Nat.{mul-le-mul-right, div-mul-le-self}
 use native.Mathlib.Omega.{arith}
-use lib.Dec.{leb, ltb, eqb}
-use lib.ListN.{length, getD, length-append}
+use lib.ListN.{length, getD}
 use borrow.Author.Tests.{le-leb, lt-leb, lt-ltb, le-ltb, eq-eqb, ne-eqb}
 use Rattle.model.specs.Table.{Range, span, pattern}
 use Rattle.model.specs.Raw.{rows}
 use Rattle.model.proofs.Lists.{none-left, one-left}
 use Rattle.arrays.specs.Put.{put}
 use Rattle.arrays.proofs.PutLaws.{put-before}
-use Rattle.arrays.proofs.Written.{Written, unwritten, as-written}
+use Rattle.arrays.proofs.Written.{Written, unwritten}
 use Rattle.parts.specs.Rows.{Row}
 use Rattle.parts.specs.Words.{planRowAt, planRowsAt}
 use Rattle.parts.proofs.Back.{row-same}
-use Rattle.pieces.specs.Pieces.{Piece, piece}
+use Rattle.pieces.specs.Pieces.{Piece, piece, packed, highIn, partOf, pieceBy}
 use Rattle.pieces.specs.Cuts.{leftOf, stepAt, cutLow, cutHigh, cutsFrom, piecesIn, rowPieces, allPieces, rangeWords, pieceWords, Bounded, Cuttable, rowOf, CutsFit}
+
+-- ---- the second word of a piece
+
+pub below-part : (w : ℕ) → w < 2 ^ 49 → w / 2 ^ 33 ≡ partOf w
+below-part w h = omega arith
+
+module _ (a b k : ℕ) (small : b < 2 ^ 33) (few : k < 65536) where
+  pub span-back : pieceBy a (packed b k) ≡ piece (span a b) k
+  span-back =
+      let high : highIn (packed b k) ≡ b = omega arith in
+      let part : packed b k / 2 ^ 33 ≡ k = omega arith in
+      ap (λ (c : Bool). piece (cond c (span a (highIn (packed b k))) (pattern a (highIn (packed b k)))) (partOf (packed b k))) (lt-ltb (packed b k) (2 ^ 49) (omega arith))
+      ∙ ap₂ (λ (x y : ℕ). piece (span a x) (y % 65536)) high part
+      ∙ ap (piece (span a b)) (let z : k % 65536 ≡ k = omega arith in z)
+
+  pub pattern-back : pieceBy a (packed b (k + 65536)) ≡ piece (pattern a b) k
+  pattern-back =
+      let high : highIn (packed b (k + 65536)) ≡ b = omega arith in
+      let part : packed b (k + 65536) / 2 ^ 33 ≡ k + 65536 = omega arith in
+      ap (λ (c : Bool). piece (cond c (span a (highIn (packed b (k + 65536)))) (pattern a (highIn (packed b (k + 65536))))) (partOf (packed b (k + 65536)))) (le-ltb (packed b (k + 65536)) (2 ^ 49) (omega arith))
+      ∙ ap₂ (λ (x y : ℕ). piece (pattern a x) (y % 65536)) high part
+      ∙ ap (piece (pattern a b)) (let z : (k + 65536) % 65536 ≡ k = omega arith in z)
+
+-- ---- the words of pieces
 
 pub words-append : (xs ys : List Piece) → pieceWords (xs ++ ys) ≡ pieceWords xs ++ pieceWords ys
 unfolding pieceWords
@@ -30,12 +53,12 @@ words-append (q ∷ xs) ys = ap (rangeWords (q .range) (q .part) ++_) (words-app
     one (span lo hi) = refl
     one (pattern bits mask) = refl
 
-pub words-length : (qs : List Piece) → length (pieceWords qs) ≡ 3 * length qs
+pub words-length : (qs : List Piece) → length (pieceWords qs) ≡ 2 * length qs
 unfolding pieceWords
 words-length [] = refl
 words-length (q ∷ qs) = one (q .range) (words-length qs)
   where
-    one : (R : Range) → length (pieceWords qs) ≡ 3 * length qs → length (rangeWords R (q .part) ++ pieceWords qs) ≡ 3 * suc (length qs)
+    one : (R : Range) → length (pieceWords qs) ≡ 2 * length qs → length (rangeWords R (q .part) ++ pieceWords qs) ≡ 2 * suc (length qs)
     one (span lo hi) e = omega arith
     one (pattern bits mask) e = omega arith
 
@@ -56,11 +79,11 @@ module _ (f : ℕ → ℕ) (a b k y : ℕ) (e : y ≡ f a) where
   unfolding pieceWords
   left-none h at l = unwritten at (pieceWords (leftOf f a b k)) l (ap (λ (c : Bool). pieceWords (cond c (piece (span (f a) b) k ∷ []) [])) (lt-leb (f a) b (omega arith)))
 
-  pub left-words : y ≤ b → pieceWords (leftOf f a b k) ≡ y ∷ b ∷ k ∷ []
+  pub left-words : y ≤ b → pieceWords (leftOf f a b k) ≡ y ∷ packed b k ∷ []
   unfolding pieceWords
   left-words h =
       ap (λ (c : Bool). pieceWords (cond c (piece (span (f a) b) k ∷ []) [])) (le-leb (f a) b (omega arith))
-      ∙ ap (λ (x : ℕ). x ∷ b ∷ k ∷ []) (sym e)
+      ∙ ap (λ (x : ℕ). x ∷ packed b k ∷ []) (sym e)
 
 -- ---- the cuts of a row
 
@@ -96,11 +119,14 @@ module _ (f : ℕ → ℕ) (kind lo hi before first last share from : ℕ) (star
       ap (λ (b : Bool). pieceWords (piecesIn f (rowOf kind lo hi before first last share) (cond b (span lo hi) (pattern lo hi)))) (eq-eqb kind 0 e)
       ∙ ap₂ (λ (x y : ℕ). pieceWords (cutsFrom f lo hi before share first x y (x + 1 - y))) (sym t) (sym from-is)
 
-  pub row-pattern : (kind ≡ 0 → ⊥) → pieceWords (rowPieces f (rowOf kind lo hi before first last share)) ≡ lo ∷ hi ∷ (first + from + 65536) ∷ []
+  pub row-pattern : (kind ≡ 0 → ⊥) → pieceWords (rowPieces f (rowOf kind lo hi before first last share)) ≡ lo ∷ packed hi (first + from + 65536) ∷ []
   unfolding rowPieces pieceWords
   row-pattern e =
       ap (λ (b : Bool). pieceWords (piecesIn f (rowOf kind lo hi before first last share) (cond b (span lo hi) (pattern lo hi)))) (ne-eqb kind 0 e)
-      ∙ ap (λ (x : ℕ). lo ∷ hi ∷ (first + x + 65536) ∷ []) (sym from-is)
+      ∙ ap (λ (x : ℕ). lo ∷ packed hi (first + x + 65536) ∷ []) (sym from-is)
+
+  pub row-mask : (low : ℕ) → Cuttable low (rowOf kind lo hi before first last share) → (kind ≡ 0 → ⊥) → hi < 2 ^ 33
+  row-mask low cut e = subst (λ (b : Bool). Bounded low (cond b (span lo hi) (pattern lo hi))) (ne-eqb kind 0 e) (cut .bounds)
 
   module _ (low : ℕ) (cut : Cuttable low (rowOf kind lo hi before first last share)) (e : kind ≡ 0) where
     pub row-bounds : (low ≤ lo) × (lo ≤ hi) × (hi < 2 ^ 33)

@@ -1,12 +1,12 @@
 -- The pieces of a point, cut from its rows: each span row at the borders of its parts, each cut from its first value that is left on.
 -- Assumes nothing.
 use Prim.Native.Nat.{ℕ, zero, suc, _+_, _-_, _*_, _/_, _^_, _≤_, _<_, min}
-use mathlib.Core.Bool.{Bool, cond}
+use mathlib.Core.Bool.{cond}
 use mathlib.Core.List.{List, [], _∷_, _++_}
 use lib.Dec.{leb, ltb, eqb}
 use Rattle.model.specs.Table.{Range, span, pattern}
 use Rattle.parts.specs.Rows.{Row, row}
-use Rattle.pieces.specs.Pieces.{Piece, piece}
+use Rattle.pieces.specs.Pieces.{Piece, piece, packed}
 
 -- what is left of the span a to b of part k: f finds the first value from a number up that is left
 abbrev pub leftOf : (ℕ → ℕ) → ℕ → ℕ → ℕ → List Piece
@@ -45,11 +45,11 @@ unfoldable pub allPieces : (ℕ → ℕ) → List Row → List Piece
 allPieces f [] = []
 allPieces f (r ∷ rs) = rowPieces f r ++ allPieces f rs
 
--- ---- as words, three for each piece
+-- ---- as words, two for each piece
 
 abbrev pub rangeWords : Range → ℕ → List ℕ
-rangeWords (span lo hi) k = lo ∷ hi ∷ k ∷ []
-rangeWords (pattern bits mask) k = bits ∷ mask ∷ (k + 65536) ∷ []
+rangeWords (span lo hi) k = lo ∷ packed hi k ∷ []
+rangeWords (pattern bits mask) k = bits ∷ packed mask (k + 65536) ∷ []
 
 unfoldable pub pieceWords : List Piece → List ℕ
 pieceWords [] = []
@@ -59,7 +59,7 @@ pieceWords (q ∷ qs) = rangeWords (q .range) (q .part) ++ pieceWords qs
 
 abbrev pub Bounded : ℕ → Range → Type 0
 Bounded low (span lo hi) = (low ≤ lo) × (lo ≤ hi) × (hi < 2 ^ 33)
-Bounded low (pattern bits mask) = Unit {0}
+Bounded low (pattern bits mask) = mask < 2 ^ 33
 
 pub record Cuttable (low : ℕ) (r : Row) : Type 0 where
   pub before : r .before < 2 ^ 60

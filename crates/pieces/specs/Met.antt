@@ -1,6 +1,6 @@
 -- Which parts of a point still hold a value from lo to hi, by one look at each of its pieces.
 -- Assumes nothing.
-use Prim.Native.Nat.{ℕ, _<_, _≤_, _/_, suc, _+_, _-_}
+use Prim.Native.Nat.{ℕ, _<_, _/_, suc, _+_, _-_}
 use mathlib.Core.Path.{_≡_}
 use mathlib.Core.Bool.{Bool, true, _&&_, cond}
 use mathlib.Core.List.{List, [], _∷_, map}
@@ -55,7 +55,7 @@ PartBelow m q = q .part < m
 -- what is asked is of point p: its spans and pieces, the lowest value of its type, two values of it, and how many parts it has
 pub record Asked (t : Table) (p : ℕ) (spans words : List ℕ) (low lo hi parts : ℕ) : Type 0 where
   pub free : SpansOf t p spans
-  pub pieces : PiecesOf t p (piecesAt words 0 (length words / 3))
+  pub pieces : PiecesOf t p (piecesAt words 0 (length words / 2))
   pub lowest : low ≡ lowest (pointAt t p)
   pub from : inType (pointAt t p) lo ≡ true
   pub to : inType (pointAt t p) hi ≡ true

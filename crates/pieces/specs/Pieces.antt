@@ -1,7 +1,7 @@
 -- What is left of the parts of a point, as pieces: spans and patterns of one part each. A span begins at its first value that is left.
 -- Values are the model's numbers, z + 2^31.
 -- Assumes nothing.
-use Prim.Native.Nat.{ℕ, _+_, _*_, _%_, _≤_, _<_}
+use Prim.Native.Nat.{ℕ, _+_, _*_, _/_, _%_, _^_, _≤_, _<_}
 use mathlib.Core.Path.{_≡_}
 use mathlib.Core.Bool.{Bool, true, false, not, _&&_, cond}
 use mathlib.Core.List.{List, map}
@@ -22,13 +22,29 @@ pub record Piece : Type 0 where
 abbrev pub piece : Range → ℕ → Piece
 piece r k = record { range = r; part = k }
 
--- three words for each: low end or bits, high end or mask, and the part, 65,536 more for a pattern
+-- two words for each: low end or bits; high end or mask, plus 2^33 times the part, and 2^49 more for a pattern
+abbrev pub packed : ℕ → ℕ → ℕ
+packed b k = b + 2 ^ 33 * k
+
+-- what the second word says
+abbrev pub isSpan : ℕ → Bool
+isSpan w = ltb w (2 ^ 49)
+
+abbrev pub highIn : ℕ → ℕ
+highIn w = w % 2 ^ 33
+
+abbrev pub partOf : ℕ → ℕ
+partOf w = w / 2 ^ 33 % 65536
+
+abbrev pub pieceBy : ℕ → ℕ → Piece
+pieceBy a w = piece (cond (isSpan w) (span a (highIn w)) (pattern a (highIn w))) (partOf w)
+
 abbrev pub pieceAt : List ℕ → ℕ → Piece
-pieceAt w at = piece (cond (ltb (getD w (at + 2) 0) 65536) (span (getD w at 0) (getD w (at + 1) 0)) (pattern (getD w at 0) (getD w (at + 1) 0))) (getD w (at + 2) 0 % 65536)
+pieceAt w at = pieceBy (getD w at 0) (getD w (at + 1) 0)
 
 -- n pieces
 abbrev pub piecesAt : List ℕ → ℕ → ℕ → List Piece
-piecesAt w at n = rows (pieceAt w) 3 at n
+piecesAt w at n = rows (pieceAt w) 2 at n
 
 -- one of the pieces of part k holds the value
 abbrev pub pieceHolds : ℕ → ℕ → Piece → Bool
@@ -37,10 +53,10 @@ pieceHolds k v q = eqb (q .part) k && inRange (q .range) v
 unfoldable pub partHolds : ℕ → ℕ → List Piece → Bool
 partHolds k v qs = any (pieceHolds k v) qs
 
--- a span of the type that begins with a value that is left, or a pattern
+-- a span of the type that begins with a value that is left, or a pattern whose mask fits its word
 abbrev pub Begins : Table → ℕ → Range → Type 0
 Begins t p (span lo hi) = (inType (pointAt t p) lo ≡ true) × (excludedValue t p lo ≡ false) × (lo ≤ hi) × (hi ≤ highest (pointAt t p))
-Begins t p (pattern bits mask) = Unit {0}
+Begins t p (pattern bits mask) = mask < 2 ^ 33
 
 -- the pieces of point p hold of each part exactly the values that are left of it
 pub record PiecesOf (t : Table) (p : ℕ) (qs : List Piece) : Type 0 where

@@ -17,7 +17,7 @@ use Rattle.pieces.specs.Pieces.{PiecesOf, piecesAt}
 abbrev pub segment : List ℕ → ℕ → ℕ → List ℕ
 segment w from to = take (to - from) (drop from w)
 
--- point p: its rows, seven words each, from `from` to `mid`, its spans from `mid` to `cuts`, its pieces, three words each, from `cuts` to `to`
+-- point p: its rows, seven words each, from `from` to `mid`, its spans from `mid` to `cuts`, its pieces, two words each, from `cuts` to `to`
 pub record PointPlan (t : Table) (p : ℕ) (w : List ℕ) (from mid cuts to : ℕ) : Type 0 where
   pub order : from ≤ mid
   pub order₁ : mid ≤ cuts
@@ -26,15 +26,15 @@ pub record PointPlan (t : Table) (p : ℕ) (w : List ℕ) (from mid cuts to : �
   pub rowsOf : RowsOf t p (planRowsAt (segment w from mid) 0 ((mid - from) / 7)) (length (covers t p))
   pub whole : (mid - from) % 7 ≡ 0
   pub spans : SpansOf t p (segment w mid cuts)
-  pub pieces : PiecesOf t p (piecesAt w cuts ((to - cuts) / 3))
+  pub pieces : PiecesOf t p (piecesAt w cuts ((to - cuts) / 2))
 
 -- all points: point p's rows are from bound 3 p on, its spans from bound 3 p + 1 on, its pieces from bound 3 p + 2 to bound 3 p + 3
 unfoldable pub ValuesPlan : Table → List ℕ → List ℕ → Type 0
 ValuesPlan t w bounds = (p : ℕ) → p < pointTotal t → PointPlan t p w (getD bounds (3 * p) 0) (getD bounds (3 * p + 1) 0) (getD bounds (3 * p + 2) 0) (getD bounds (3 * p + 3) 0)
 
--- how many words the plan of point p takes at most: one for each span, three for each piece, seven for each row
+-- how many words the plan of point p takes at most: one for each span, two for each piece, seven for each row
 abbrev pub pointNeed : Table → ℕ → ℕ
-pointNeed t p = 4 * rangesListed t p + 3 * (length (covers t p) + 1) + 7 * (rangesListed t p + 1)
+pointNeed t p = 3 * rangesListed t p + 2 * (length (covers t p) + 1) + 7 * (rangesListed t p + 1)
 
 -- and the plan of all points
 unfoldable pub planNeed : Table → ℕ

@@ -12,6 +12,7 @@ ghost use Rattle.arrays.specs.Put.{put};
 ghost use Rattle.spans.specs.Spans.{apart};
 ghost use Rattle.spans.specs.Point.{freeValue};
 ghost use Rattle.parts.specs.Words.{planRowAt, planRowsAt};
+ghost use Rattle.pieces.specs.Pieces.{packed};
 ghost use Rattle.pieces.specs.Cuts.{leftOf, cutLow, cutHigh, cutsFrom, rowPieces, allPieces, pieceWords, Cuttable, rowOf, CutsFit};
 
 // A row: kind (0: span), low end or bits, high end or mask, values listed before it in its bin, and its bin's first part, last part (counted from the first) and share.
@@ -41,15 +42,14 @@ fn row_at(w: &[u64], at: usize) -> Row
     }
 }
 
-// The three words of a piece.
+// The two words of a piece.
 fn put_piece(out: &mut [u64], at: usize, a: u64, b: u64, k: u64) -> usize
-    requires { ⌜ at + 3 ≤ length (now out) ⌝ }
-    ensures { λ r. ⌜ (r ≡ at + 3) × (now (out .exit) ≡ put at (a ∷ b ∷ k ∷ []) (now (out .entry))) ⌝ }
+    requires { ⌜ (at + 2 ≤ length (now out)) × (b < 8589934592) × (k < 131072) ⌝ }
+    ensures { λ r. ⌜ (r ≡ at + 2) × (now (out .exit) ≡ put at (a ∷ packed b k ∷ []) (now (out .entry))) ⌝ }
 {
     out[at] = a;
-    out[at + 1] = b;
-    out[at + 2] = k;
-    at + 3
+    out[at + 1] = b + 8589934592 * k;
+    at + 2
 }
 
 // A span of one part.
@@ -61,7 +61,7 @@ pub struct Cut {
 
 // What is left of it.
 fn put_left(out: &mut [u64], at: usize, spans: &[u64], low: u64, c: Cut) -> usize
-    requires { ⌜ (apart (now spans) ≡ true) × (low ≤ c .low) × (c .low ≤ 8589934592) ⌝ }
+    requires { ⌜ (apart (now spans) ≡ true) × (low ≤ c .low) × (c .low ≤ 8589934592) × (c .high < 8589934592) × (c .part < 65536) ⌝ }
     requires { ⌜ at + length (pieceWords (leftOf (freeValue (now spans) low) (c .low) (c .high) (c .part))) ≤ length (now out) ⌝ }
     ensures { λ r. ⌜ (r ≡ at + length (pieceWords (leftOf (freeValue (now (spans .entry)) low) (c .low) (c .high) (c .part)))) × (now (out .exit) ≡ put at (pieceWords (leftOf (freeValue (now (spans .entry)) low) (c .low) (c .high) (c .part))) (now (out .entry))) ⌝ }
 {
@@ -86,7 +86,7 @@ pub struct Cuts {
 // What the row has of part j.
 fn cut_at(c: Cuts, j: u64) -> Cut
     requires { ⌜ CutsFit (c .lo) (c .hi) (c .before) (c .share) (c .first) (c .top) × (j ≤ c .top) ⌝ }
-    ensures { λ r. ⌜ (r .low ≡ cutLow (c .lo) (c .before) (c .share) j) × (r .high ≡ cutHigh (c .lo) (c .hi) (c .before) (c .share) (c .top) j) × (r .part ≡ c .first + j) × (c .lo ≤ r .low) × (r .low ≤ c .hi) ⌝ }
+    ensures { λ r. ⌜ (r .low ≡ cutLow (c .lo) (c .before) (c .share) j) × (r .high ≡ cutHigh (c .lo) (c .hi) (c .before) (c .share) (c .top) j) × (r .part ≡ c .first + j) × (c .lo ≤ r .low) × (r .low ≤ c .hi) × (r .high ≤ c .hi) ⌝ }
 {
     let low = c.lo + less(j * c.share, c.before);
     let part = c.first + j;
@@ -154,8 +154,8 @@ pub fn put_pieces(
     low: u64,
 ) -> usize
     requires { ⌜ (n < 65536) × (from + 7 * n ≤ at) × (apart (now spans) ≡ true) × All (Cuttable low) (planRowsAt (now out) from n) ⌝ }
-    requires { ⌜ at + 3 * length (allPieces (freeValue (now spans) low) (planRowsAt (now out) from n)) ≤ length (now out) ⌝ }
-    ensures { λ r. ⌜ (r ≡ at + 3 * length (allPieces (freeValue (now (spans .entry)) low) (planRowsAt (now (out .entry)) from n))) × (now (out .exit) ≡ put at (pieceWords (allPieces (freeValue (now (spans .entry)) low) (planRowsAt (now (out .entry)) from n))) (now (out .entry))) ⌝ }
+    requires { ⌜ at + 2 * length (allPieces (freeValue (now spans) low) (planRowsAt (now out) from n)) ≤ length (now out) ⌝ }
+    ensures { λ r. ⌜ (r ≡ at + 2 * length (allPieces (freeValue (now (spans .entry)) low) (planRowsAt (now (out .entry)) from n))) × (now (out .exit) ≡ put at (pieceWords (allPieces (freeValue (now (spans .entry)) low) (planRowsAt (now (out .entry)) from n))) (now (out .entry))) ⌝ }
 {
     let mut e = at;
     let mut i = 0;

@@ -62,16 +62,16 @@ fn pattern_met(spans: &[u64], bits: u64, mask: u64, ask: Ask) -> bool
 
 // A 1 at the part of the pattern at at, if it is met.
 fn meet_pattern(flags: &mut [u8], words: &[u64], at: usize, spans: &[u64], ask: Ask)
-    requires { ⌜ (at + 3 ≤ length (now words)) × (65536 ≤ getD (now words) (at + 2) 0) × (apart (now spans) ≡ true) × (ask .low ≤ ask .lo) × (ask .lo < 8589934592) × (ask .hi < 8589934592) ⌝ }
+    requires { ⌜ (at + 2 ≤ length (now words)) × (562949953421312 ≤ getD (now words) (at + 1) 0) × (apart (now spans) ≡ true) × (ask .low ≤ ask .lo) × (ask .lo < 8589934592) × (ask .hi < 8589934592) ⌝ }
     requires { ⌜ PartBelow (length (now flags)) (pieceAt (now words) at) ⌝ }
     ensures { λ _. ⌜ now (flags .exit) ≡ metOne (freeValue (now (spans .entry)) (ask .low)) (ask .lo) (ask .hi) (pieceAt (now (words .entry)) at) (now (flags .entry)) ⌝ }
 {
     let bits = words[at];
-    let mask = words[at + 1];
-    if !pattern_met(spans, bits, mask, ask) {
+    let w = words[at + 1];
+    if !pattern_met(spans, bits, w % 8589934592, ask) {
         return;
     }
-    let k = (words[at + 2] % 65536) as usize;
+    let k = (w / 8589934592 % 65536) as usize;
     flags[k] = 1;
 }
 
@@ -105,20 +105,21 @@ fn mark(flags: &mut [u8], k: usize, on: bool)
 
 // A 1 at the part of each span that is met, from piece i to the first pattern. Answers which piece that is, or n.
 fn meet_spans(flags: &mut [u8], words: &[u64], i: usize, n: usize, reach: Reach) -> usize
-    requires { ⌜ (i ≤ n) × (3 * n ≤ length (now words)) × All (PartBelow (length (now flags))) (piecesAt (now words) 0 n) ⌝ }
-    ensures { λ r. ⌜ (i ≤ r) × (r ≤ n) × (r < n → 65536 ≤ getD (now (words .entry)) (3 * r + 2) 0) ⌝ }
-    ensures { λ r. ⌜ ((f : ℕ → ℕ) (lo hi : ℕ) → reach .from ≡ f lo → reach .end ≡ reachEnd (reach .from) hi → raiseAll (metParts f lo hi (piecesAt (now (words .entry)) (3 * r) (n - r))) (now (flags .exit)) ≡ raiseAll (metParts f lo hi (piecesAt (now (words .entry)) (3 * i) (n - i))) (now (flags .entry))) ⌝ }
+    requires { ⌜ (i ≤ n) × (2 * n ≤ length (now words)) × All (PartBelow (length (now flags))) (piecesAt (now words) 0 n) ⌝ }
+    ensures { λ r. ⌜ (i ≤ r) × (r ≤ n) × (r < n → 562949953421312 ≤ getD (now (words .entry)) (2 * r + 1) 0) ⌝ }
+    ensures { λ r. ⌜ ((f : ℕ → ℕ) (lo hi : ℕ) → reach .from ≡ f lo → reach .end ≡ reachEnd (reach .from) hi → raiseAll (metParts f lo hi (piecesAt (now (words .entry)) (2 * r) (n - r))) (now (flags .exit)) ≡ raiseAll (metParts f lo hi (piecesAt (now (words .entry)) (2 * i) (n - i))) (now (flags .entry))) ⌝ }
 {
     let mut j = i;
     while j < n {
-        let at = 3 * j;
-        let k = words[at + 2];
-        if 65536 <= k {
+        let at = 2 * j;
+        let w = words[at + 1];
+        if 562949953421312 <= w {
             return j;
         }
         let a = words[at];
-        let b = words[at + 1];
-        mark(flags, k as usize, (a < reach.end) & (reach.from <= b));
+        let b = w % 8589934592;
+        let k = (w / 8589934592) as usize;
+        mark(flags, k, (a < reach.end) & (reach.from <= b));
         j += 1;
     }
     n
@@ -134,21 +135,21 @@ fn meet_run(
     reach: Reach,
     ask: Ask,
 ) -> usize
-    requires { ⌜ (i < n) × (3 * n ≤ length (now words)) × (reach .from ≡ freeValue (now spans) (ask .low) (ask .lo)) × (reach .end ≡ reachEnd (reach .from) (ask .hi)) × (apart (now spans) ≡ true) × (ask .low ≤ ask .lo) × (ask .lo < 8589934592) × (ask .hi < 8589934592) ⌝ }
+    requires { ⌜ (i < n) × (2 * n ≤ length (now words)) × (reach .from ≡ freeValue (now spans) (ask .low) (ask .lo)) × (reach .end ≡ reachEnd (reach .from) (ask .hi)) × (apart (now spans) ≡ true) × (ask .low ≤ ask .lo) × (ask .lo < 8589934592) × (ask .hi < 8589934592) ⌝ }
     requires { ⌜ All (PartBelow (length (now flags))) (piecesAt (now words) 0 n) ⌝ }
-    ensures { λ r. ⌜ (i < r) × (r ≤ n) × (raiseAll (metParts (freeValue (now (spans .entry)) (ask .low)) (ask .lo) (ask .hi) (piecesAt (now (words .entry)) (3 * r) (n - r))) (now (flags .exit)) ≡ raiseAll (metParts (freeValue (now (spans .entry)) (ask .low)) (ask .lo) (ask .hi) (piecesAt (now (words .entry)) (3 * i) (n - i))) (now (flags .entry))) ⌝ }
+    ensures { λ r. ⌜ (i < r) × (r ≤ n) × (raiseAll (metParts (freeValue (now (spans .entry)) (ask .low)) (ask .lo) (ask .hi) (piecesAt (now (words .entry)) (2 * r) (n - r))) (now (flags .exit)) ≡ raiseAll (metParts (freeValue (now (spans .entry)) (ask .low)) (ask .lo) (ask .hi) (piecesAt (now (words .entry)) (2 * i) (n - i))) (now (flags .entry))) ⌝ }
 {
     let j = meet_spans(flags, words, i, n, reach);
     if n <= j {
         return n;
     }
-    meet_pattern(flags, words, 3 * j, spans, ask);
+    meet_pattern(flags, words, 2 * j, spans, ask);
     j + 1
 }
 
 // A 1 at each part of which one of n pieces is met.
 fn meet(flags: &mut [u8], words: &[u64], n: usize, spans: &[u64], ask: Ask)
-    requires { ⌜ (3 * n ≤ length (now words)) × (apart (now spans) ≡ true) × (ask .low ≤ ask .lo) × (ask .lo < 8589934592) × (ask .hi < 8589934592) ⌝ }
+    requires { ⌜ (2 * n ≤ length (now words)) × (apart (now spans) ≡ true) × (ask .low ≤ ask .lo) × (ask .lo < 8589934592) × (ask .hi < 8589934592) ⌝ }
     requires { ⌜ All (PartBelow (length (now flags))) (piecesAt (now words) 0 n) ⌝ }
     ensures { λ _. ⌜ now (flags .exit) ≡ raiseAll (metParts (freeValue (now (spans .entry)) (ask .low)) (ask .lo) (ask .hi) (piecesAt (now (words .entry)) 0 n)) (now (flags .entry)) ⌝ }
 {
@@ -161,7 +162,7 @@ fn meet(flags: &mut [u8], words: &[u64], n: usize, spans: &[u64], ask: Ask)
 
 // A byte for each part: 1 where one of its pieces is met.
 fn put_flags(flags: &mut [u8], words: &[u64], n: usize, spans: &[u64], ask: Ask)
-    requires { ⌜ (3 * n ≤ length (now words)) × (apart (now spans) ≡ true) × (ask .low ≤ ask .lo) × (ask .lo < 8589934592) × (ask .hi < 8589934592) ⌝ }
+    requires { ⌜ (2 * n ≤ length (now words)) × (apart (now spans) ≡ true) × (ask .low ≤ ask .lo) × (ask .lo < 8589934592) × (ask .hi < 8589934592) ⌝ }
     requires { ⌜ All (PartBelow (length (now flags))) (piecesAt (now words) 0 n) ⌝ }
     ensures { λ _. ⌜ now (flags .exit) ≡ metFlags (freeValue (now (spans .entry)) (ask .low)) (ask .lo) (ask .hi) (piecesAt (now (words .entry)) 0 n) (length (now (flags .entry))) ⌝ }
 {
@@ -170,13 +171,13 @@ fn put_flags(flags: &mut [u8], words: &[u64], n: usize, spans: &[u64], ask: Ask)
     meet(flags, words, n, spans, ask);
 }
 
-// For each part of the point: whether it still holds a value from lo to hi. words has the point's pieces, three words each.
+// For each part of the point: whether it still holds a value from lo to hi. words has the point's pieces, two words each.
 pub fn put_met(out: &mut [u8], at: usize, words: &[u64], spans: &[u64], ask: Ask)
-    requires { ⌜ (at + ask .parts ≤ length (now out)) × All (PartBelow (ask .parts)) (piecesAt (now words) 0 (length (now words) / 3)) ⌝ }
+    requires { ⌜ (at + ask .parts ≤ length (now out)) × All (PartBelow (ask .parts)) (piecesAt (now words) 0 (length (now words) / 2)) ⌝ }
     requires { ⌜ (apart (now spans) ≡ true) × (ask .low ≤ ask .lo) × (ask .lo < 8589934592) × (ask .hi < 8589934592) ⌝ }
     ensures { λ _. ⌜ ((t : Table) (p : ℕ) → Asked t p (now (spans .entry)) (now (words .entry)) (ask .low) (ask .lo) (ask .hi) (ask .parts) → now (out .exit) ≡ put at (metBits t p (ask .lo) (ask .hi)) (now (out .entry))) ⌝ }
 {
-    let n = words.len() / 3;
+    let n = words.len() / 2;
     let e = at + ask.parts;
     put_flags(&mut out[at..e], words, n, spans, ask);
 }

@@ -40,7 +40,7 @@ returns c =
     let b = c .before .before .before .before .before .before .before .before .before .before .limits-of .ensures in
     let w = c .before .before .before .before .before .before .put-words .ensures in
     let v = c .before .before .put-pieces .ensures in (
-      planned (tableOf (a .t .now)) (a .next .point) (a .b .parts) (a .next .at) (a .b .rows) (a .plan .now) (q .0 .2) (q .0 .4) (a .spans .now) (q .1 .0) (q .1 .1) _ (b .0) (q .1 .2) _ _ _ refl (w .0) (w .1) _ _ (v .0) (v .1),
+      planned (tableOf (a .t .now)) (a .next .point) (a .b .parts) (a .next .at) (a .b .rows) (a .plan .now) (q .0 .2) (q .0 .4) (a .spans .now) (q .1 .0) (q .1 .1) _ (b .0) (q .1 .2) _ _ _ refl (w .0) (w .1) _ _ (v .0) (v .1) (omega (arith, b .1, b .3)),
       kept-below (tableOf (a .t .now)) (a .next .point) (a .b .parts) (a .next .at) (a .b .rows) (a .plan .now) (q .0 .2) (q .0 .4) (a .spans .now) (q .1 .0) (q .1 .1) _ (b .0) (q .1 .2) _ _ _ refl (w .0) (w .1) _ _ (v .0) (v .1),
       ends-few (tableOf (a .t .now)) (a .next .point) (a .b .parts) (a .next .at) (a .b .rows) (a .plan .now) (q .0 .2) (q .0 .4) (a .spans .now) (q .1 .0) (q .1 .1) _ (b .0) (q .1 .2) _ _ _ refl (w .0) (w .1) _ _ (v .0) (v .1),
     )

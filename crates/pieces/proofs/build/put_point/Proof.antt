@@ -1,7 +1,6 @@
 use mathlib.Core.Path.{sym, _∙_}
 use native.Mathlib.Omega.{arith}
 use lib.Seq.{length-take-le}
-use Rattle.model.proofs.RawExact.{few-points}
 use borrow.Author.Needs.{needs}
 use Rattle.pieces.proofs.build.put_point.Statement.{statement}
 use Rattle.pieces.proofs.build.put_point.Tie as tie

@@ -44,14 +44,16 @@ returns c =
     let a = c .before .before .before .before .before .before .before .before .before .before .args in
     let d = c .before .before .before .before .before .before .before .before .less .ensures in
     let m = product-most _ _ _ _ (c .before .before .before .before .before .before .before .before .before .before .pre .1) (c .before .before .before .before .before .before .before .before .before .before .pre .0 .most) in
-    (ap (a .c .lo +_) d, high-inner (a .c .lo) (a .c .hi) (a .c .before) (a .c .share) (a .c .top) (a .j) _ (omega arith) (c .less3 .ensures ∙ ap (λ (x : ℕ). a .c .lo + x - 1) (c .before .before .less2 .ensures)), refl, omega arith, omega arith)
+    let h : a .j + 1 ≤ a .c .top = omega arith in
+    let most = product-most _ _ _ _ h (c .before .before .before .before .before .before .before .before .before .before .pre .0 .most) in
+    (ap (a .c .lo +_) d, high-inner (a .c .lo) (a .c .hi) (a .c .before) (a .c .share) (a .c .top) (a .j) _ (omega arith) (c .less3 .ensures ∙ ap (λ (x : ℕ). a .c .lo + x - 1) (c .before .before .less2 .ensures)), refl, omega arith, omega arith, omega (arith, c .less3 .ensures, c .before .before .less2 .ensures, most))
 
 returns-2 : tie.Need-returns-2
 returns-2 c =
     let a = c .before .before .before .before .before .before .args in
     let d = c .before .before .before .before .less .ensures in
     let m = product-most _ _ _ _ (c .before .before .before .before .before .before .pre .1) (c .before .before .before .before .before .before .pre .0 .most) in
-    (ap (a .c .lo +_) d, high-last (a .c .lo) (a .c .hi) (a .c .before) (a .c .share) (a .c .top) (a .j) (omega arith), refl, omega arith, omega arith)
+    (ap (a .c .lo +_) d, high-last (a .c .lo) (a .c .hi) (a .c .before) (a .c .share) (a .c .top) (a .j) (omega arith), refl, omega arith, omega arith, omega arith)
 
 pub cut-at-spec : {M : Type 1} → statement M
 cut-at-spec =

@@ -1,8 +1,7 @@
-use mathlib.Core.Path.{_≡_, refl, ap, _∙_}
+use mathlib.Core.Path.{refl}
 use mathlib.Core.List.{List}
-use Prim.Native.Nat.{ℕ, _+_, _-_, _≤_}
+use Prim.Native.Nat.{ℕ, _+_, _-_}
 use native.Mathlib.Omega.{arith}
-use lib.ListN.{length}
 use Rattle.arrays.proofs.Written.{Written, written-start, written-end, written-room, written-turn}
 use Rattle.spans.specs.Point.{freeValue}
 use Rattle.pieces.specs.Cuts.{leftOf, cutsFrom, pieceWords}
@@ -34,7 +33,7 @@ put-left-requires c κs =
     let l = c .before .before .before .before .loop in
     let k = c .before .cut-at .ensures in
     let r = c .before .cut-at .result in
-    ((q .0 .0, omega (arith, q .0 .1), omega (arith, q .0 .2 .high)), written-room _ _ _ _ _ _ (l .inv) (q .1) (pieceWords (leftOf (freeValue (a .spans .now) (a .low)) (r .low) (r .high) (r .part))) (left (a .spans .now) (a .low) (a .c .lo) (a .c .hi) (a .c .before) (a .c .share) (a .c .first) (a .c .top) (l .j + 1)) (cuts-turn (freeValue (a .spans .now) (a .low)) (a .c .lo) (a .c .hi) (a .c .before) (a .c .share) (a .c .first) (a .c .top) (l .j) _ _ _ (k .0) (k .1) (k .2) (omega arith)))
+    ((q .0 .0, omega (arith, q .0 .1), omega (arith, q .0 .2 .high), omega (arith, q .0 .2 .high, k .5), omega (arith, q .0 .2 .room, k .2)), written-room _ _ _ _ _ _ (l .inv) (q .1) (pieceWords (leftOf (freeValue (a .spans .now) (a .low)) (r .low) (r .high) (r .part))) (left (a .spans .now) (a .low) (a .c .lo) (a .c .hi) (a .c .before) (a .c .share) (a .c .first) (a .c .top) (l .j + 1)) (cuts-turn (freeValue (a .spans .now) (a .low)) (a .c .lo) (a .c .hi) (a .c .before) (a .c .share) (a .c .first) (a .c .top) (l .j) _ _ _ (k .0) (k .1) (k .2) (omega arith)))
 
 add-j : tie.Need-add-j Inv-loop μ-loop
 add-j c = omega (arith, c .before .before .before .before .before .before .before .before .before .before .pre .0 .2 .room)

@@ -20,7 +20,8 @@ put-piece-requires : tie.Need-put-piece-requires
 put-piece-requires c κs =
     let a = c .before .before .before .before .before .before .args in
     let e = left-words (freeValue (a .spans .now) (a .low)) (a .c .low) (a .c .high) (a .c .part) _ (c .before .before .before .free-value .ensures .0) (omega arith) in
-    omega (arith, ap length e, c .before .before .before .before .before .before .pre .1)
+    let q = c .before .before .before .before .before .before .pre in
+    (omega (arith, ap length e, q .1), q .0 .3, omega (arith, q .0 .4))
 
 same-length : tie.Need-same-length
 same-length c = search needs
@@ -29,7 +30,7 @@ returns-2 : tie.Need-returns-2
 returns-2 c =
     let a = c .before .before .before .before .before .before .before .before .before .args in
     let e = left-words (freeValue (a .spans .now) (a .low)) (a .c .low) (a .c .high) (a .c .part) _ (c .before .before .before .before .before .before .free-value .ensures .0) (omega arith) in
-    as-written (a .at) _ 3 _ _ (a .out .now) _ e refl (c .before .before .put-piece .ensures .0) (c .before .before .put-piece .ensures .1)
+    as-written (a .at) _ 2 _ _ (a .out .now) _ e refl (c .before .before .put-piece .ensures .0) (c .before .before .put-piece .ensures .1)
 
 pub put-left-spec : {M : Type 1} → statement M
 put-left-spec =

@@ -3,7 +3,7 @@ use native.Mathlib.Omega.{arith}
 use lib.ListN.{length}
 use Rattle.arrays.proofs.Written.{as-written}
 use Rattle.spans.specs.Point.{freeValue}
-use Rattle.pieces.proofs.WordLaws.{row-span, row-pattern, row-bounds, row-fits}
+use Rattle.pieces.proofs.WordLaws.{row-span, row-pattern, row-mask, row-bounds, row-fits}
 use borrow.Author.Needs.{needs}
 use Rattle.pieces.proofs.cuts.put_row.Statement.{statement}
 use Rattle.pieces.proofs.cuts.put_row.Tie as tie
@@ -21,7 +21,9 @@ put-piece-requires : tie.Need-put-piece-requires
 put-piece-requires c κs =
     let a = c .before .before .before .before .before .before .before .args in
     let e = row-pattern (freeValue (a .spans .now) (a .low)) (a .r .kind) (a .r .low) (a .r .high) (a .r .before) (a .r .first) (a .r .last) (a .r .share) _ (c .before .before .before .before .capped .ensures) (c .before .before .if1 .taken) in
-    omega (arith, ap length e, c .before .before .before .before .before .before .before .pre .1)
+    let q = c .before .before .before .before .before .before .before .pre in
+    let m = row-mask (freeValue (a .spans .now) (a .low)) (a .r .kind) (a .r .low) (a .r .high) (a .r .before) (a .r .first) (a .r .last) (a .r .share) _ (c .before .before .before .before .capped .ensures) (a .low) (q .0 .1) (c .before .before .if1 .taken) in
+    (omega (arith, ap length e, q .1), m, omega (arith, c .before .before .before .before .capped .ensures, q .0 .1 .room))
 
 same-length : tie.Need-same-length
 same-length c = search needs
@@ -30,7 +32,7 @@ returns : tie.Need-returns
 returns c =
     let a = c .before .before .before .before .before .before .before .before .before .before .args in
     let w = c .before .before .put-piece .ensures in
-    as-written (a .at) _ 3 _ _ (a .out .now) _ (row-pattern (freeValue (a .spans .now) (a .low)) (a .r .kind) (a .r .low) (a .r .high) (a .r .before) (a .r .first) (a .r .last) (a .r .share) _ (c .before .before .before .before .before .before .before .capped .ensures) (c .before .before .before .before .before .if1 .taken)) refl (w .0) (w .1)
+    as-written (a .at) _ 2 _ _ (a .out .now) _ (row-pattern (freeValue (a .spans .now) (a .low)) (a .r .kind) (a .r .low) (a .r .high) (a .r .before) (a .r .first) (a .r .last) (a .r .share) _ (c .before .before .before .before .before .before .before .capped .ensures) (c .before .before .before .before .before .if1 .taken)) refl (w .0) (w .1)
 
 sub-capped : tie.Need-sub-capped
 sub-capped c =

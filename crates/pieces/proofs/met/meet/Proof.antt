@@ -13,7 +13,7 @@ use Rattle.pieces.proofs.met.meet.Tie as tie
 
 abbrev Inv-loop : tie.InvT-loop
 Inv-loop flags₀ words n spans ask reach i₀ flags i =
-    (i ≤ n) × (length flags ≡ length flags₀) × (raiseAll (metParts (freeValue spans (ask .low)) (ask .lo) (ask .hi) (piecesAt words (3 * i) (n - i))) flags ≡ raiseAll (metParts (freeValue spans (ask .low)) (ask .lo) (ask .hi) (piecesAt words 0 n)) flags₀) × (reach .from ≡ freeValue spans (ask .low) (ask .lo)) × (reach .end ≡ reachEnd (reach .from) (ask .hi))
+    (i ≤ n) × (length flags ≡ length flags₀) × (raiseAll (metParts (freeValue spans (ask .low)) (ask .lo) (ask .hi) (piecesAt words (2 * i) (n - i))) flags ≡ raiseAll (metParts (freeValue spans (ask .low)) (ask .lo) (ask .hi) (piecesAt words 0 n)) flags₀) × (reach .from ≡ freeValue spans (ask .low) (ask .lo)) × (reach .end ≡ reachEnd (reach .from) (ask .hi))
 
 abbrev μ-loop : tie.MeasureT-loop
 μ-loop flags₀ words n spans ask reach i₀ flags i = n - i

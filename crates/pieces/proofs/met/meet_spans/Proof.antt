@@ -1,20 +1,21 @@
 use mathlib.Core.Path.{_≡_, refl, _∙_}
-use Prim.Native.Nat.{ℕ, _+_, _-_, _*_, _%_, _≤_, _<_}
+use Prim.Native.Nat.{ℕ, _+_, _-_, _*_, _≤_, _<_}
 use native.Mathlib.Nat.{zero-add}
 use native.Mathlib.Omega.{arith}
 use lib.ListN.{length, getD}
 use Rattle.parts.specs.Rows.{raiseAll}
 use Rattle.parts.proofs.RaiseLaws.{row-in}
-use Rattle.pieces.specs.Pieces.{pieceAt, piecesAt}
+use Rattle.pieces.specs.Pieces.{partOf, pieceAt, piecesAt}
 use Rattle.pieces.specs.Met.{metParts, reachEnd, PartBelow}
 use Rattle.pieces.proofs.SearchLaws.{span-one, met-turn, met-none}
+use Rattle.pieces.proofs.WordLaws.{below-part}
 use borrow.Author.Needs.{needs}
 use Rattle.pieces.proofs.met.meet_spans.Statement.{statement}
 use Rattle.pieces.proofs.met.meet_spans.Tie as tie
 
 abbrev Inv-loop : tie.InvT-loop
 Inv-loop flags₀ words i n reach j₀ flags j =
-    (i ≤ j) × (j ≤ n) × (length flags ≡ length flags₀) × ((f : ℕ → ℕ) (lo hi : ℕ) → reach .from ≡ f lo → reach .end ≡ reachEnd (reach .from) hi → raiseAll (metParts f lo hi (piecesAt words (3 * j) (n - j))) flags ≡ raiseAll (metParts f lo hi (piecesAt words (3 * i) (n - i))) flags₀)
+    (i ≤ j) × (j ≤ n) × (length flags ≡ length flags₀) × ((f : ℕ → ℕ) (lo hi : ℕ) → reach .from ≡ f lo → reach .end ≡ reachEnd (reach .from) hi → raiseAll (metParts f lo hi (piecesAt words (2 * j) (n - j))) flags ≡ raiseAll (metParts f lo hi (piecesAt words (2 * i) (n - i))) flags₀)
 
 abbrev μ-loop : tie.MeasureT-loop
 μ-loop flags₀ words i n reach j₀ flags j = n - j
@@ -25,14 +26,14 @@ loop-holds c = (omega arith, c .before .before .pre .0, refl, λ f lo hi ef ee. 
 mul-at : tie.Need-mul-at Inv-loop μ-loop
 mul-at c = omega (arith, c .before .before .before .before .pre .1)
 
-add-k : tie.Need-add-k Inv-loop μ-loop
-add-k c = omega (arith, c .before .before .before .before .pre .1)
+add-w : tie.Need-add-w Inv-loop μ-loop
+add-w c = omega (arith, c .before .before .before .before .pre .1)
 
-mul-k : tie.Need-mul-k Inv-loop μ-loop
-mul-k c = omega arith
+mul-w : tie.Need-mul-w Inv-loop μ-loop
+mul-w c = omega arith
 
-shared-slice-read-k : tie.Need-shared-slice-read-k Inv-loop μ-loop
-shared-slice-read-k c = omega (arith, c .before .before .before .before .before .pre .1)
+shared-slice-read-w : tie.Need-shared-slice-read-w Inv-loop μ-loop
+shared-slice-read-w c = omega (arith, c .before .before .before .before .before .pre .1)
 
 same-length : tie.Need-same-length Inv-loop μ-loop
 same-length c = c .before .before .before .loop .inv .2
@@ -48,22 +49,13 @@ mul-a c = omega arith
 shared-slice-read-a : tie.Need-shared-slice-read-a Inv-loop μ-loop
 shared-slice-read-a c = omega (arith, c .before .before .before .before .before .before .before .pre .1)
 
-add-b : tie.Need-add-b Inv-loop μ-loop
-add-b c = omega (arith, c .before .before .before .before .before .before .before .pre .1)
-
-mul-b : tie.Need-mul-b Inv-loop μ-loop
-mul-b c = omega arith
-
-shared-slice-read-b : tie.Need-shared-slice-read-b Inv-loop μ-loop
-shared-slice-read-b c = omega (arith, c .before .before .before .before .before .before .before .before .pre .1)
-
 mark-requires : tie.Need-mark-requires Inv-loop μ-loop
 mark-requires c κs =
-    let a = c .before .before .before .before .before .before .before .before .before .before .before .args in
-    let q = c .before .before .before .before .before .before .before .before .before .before .before .pre in
-    let l = c .before .before .before .before .before .before .before .before .loop in
-    let below : getD (a .words .now) (3 * l .j + 2) 0 % 65536 < length (a .flags .now) = rw zero-add at (row-in (PartBelow (length (a .flags .now))) (pieceAt (a .words .now)) 3 0 (a .n) (q .2) (l .j) (omega arith)) in
-    omega (arith, c .before .before .before .before .before .if1 .left, l .inv .2)
+    let a = c .before .before .before .before .before .before .before .before .before .before .args in
+    let q = c .before .before .before .before .before .before .before .before .before .before .pre in
+    let l = c .before .before .before .before .before .before .before .loop in
+    let below : partOf (getD (a .words .now) (2 * l .j + 1) 0) < length (a .flags .now) = rw zero-add at (row-in (PartBelow (length (a .flags .now))) (pieceAt (a .words .now)) 2 0 (a .n) (q .2) (l .j) (omega arith)) in
+    omega (arith, below-part (getD (a .words .now) (2 * l .j + 1) 0) (omega (arith, c .before .before .before .before .if1 .left)), l .inv .2)
 
 add-j : tie.Need-add-j Inv-loop μ-loop
 add-j c = omega arith
@@ -73,9 +65,9 @@ loop-less c = omega arith
 
 loop-again : tie.Need-loop-again Inv-loop μ-loop
 loop-again c =
-    let a = c .before .before .before .before .before .before .before .before .before .before .before .before .before .before .args in
-    let l = c .before .before .before .before .before .before .before .before .before .before .before .loop in
-    (omega arith, omega arith, search needs, λ f lo hi ef ee. met-turn f lo hi (a .words .now) (a .n) (l .j) (l .flags) _ (omega arith) (span-one f lo hi (a .words .now) (3 * l .j) _ _ _ _ _ (l .flags) _ ef ee refl refl refl (omega (arith, c .before .before .before .before .before .before .before .before .if1 .left)) (c .before .before .mark .ensures)) ∙ l .inv .3 f lo hi ef ee)
+    let a = c .before .before .before .before .before .before .before .before .before .before .before .before .before .args in
+    let l = c .before .before .before .before .before .before .before .before .before .before .loop in
+    (omega arith, omega arith, search needs, λ f lo hi ef ee. met-turn f lo hi (a .words .now) (a .n) (l .j) (l .flags) _ (omega arith) (span-one f lo hi (a .words .now) (2 * l .j) _ _ (l .flags) _ ef ee (omega (arith, c .before .before .before .before .before .before .before .if1 .left)) (c .before .before .mark .ensures)) ∙ l .inv .3 f lo hi ef ee)
 
 same-length-2 : tie.Need-same-length-2 Inv-loop μ-loop
 same-length-2 c = c .before .loop .inv .2
@@ -94,16 +86,13 @@ meet-spans-spec =
     μ-loop
     loop-holds
     mul-at
-    add-k
-    mul-k
-    shared-slice-read-k
+    add-w
+    mul-w
+    shared-slice-read-w
     same-length
     returns
     mul-a
     shared-slice-read-a
-    add-b
-    mul-b
-    shared-slice-read-b
     mark-requires
     add-j
     loop-less
