@@ -1,11 +1,12 @@
 -- The tallies of an accepted table's counters, and the figures that they make.
 -- Assumes nothing.
-use mathlib.Core.Path.{_≡_, refl, ap, ap₂, sym, _∙_}
+use mathlib.Core.Path.{_≡_, refl, ap, ap₂, sym, _∙_, subst}
 use mathlib.Core.Bool.{true}
 use mathlib.Core.List.{List, _∷_, map}
 use Prim.Native.Nat.{ℕ, zero, suc, _+_, _≤_, _<_}
 use native.Mathlib.Omega.{arith}
 use lib.ListN.{length, take, drop, getD, length-map}
+use lib.Seq.{getD-take}
 use borrow.Author.Tests.{leb-true}
 use Rattle.model.specs.Lists.{upFrom}
 use Rattle.model.specs.Table.{Table}
@@ -16,6 +17,7 @@ use Rattle.model.specs.Register.{counterTotal, countsOf, wordsNeeded, longEnoug
 use Rattle.model.specs.Lists.{asBit}
 use Rattle.model.proofs.Group.{covered-le}
 use Rattle.model.proofs.MeasureBounds.{words-few}
+use Rattle.model.proofs.Readers.{All, all-at}
 use Rattle.model.proofs.Sections.{acceptance, accepted-decodes}
 use Rattle.arrays.specs.Put.{put}
 use Rattle.arrays.specs.Flat.{totalFlags, itemsOf}
@@ -23,12 +25,13 @@ use Rattle.figures.specs.Figures.{item, itemsFrom, groupCase, figureCase}
 use Rattle.figures.specs.declared.Figure.{Figure}
 use Rattle.figures.specs.declared.GroupFigure.{GroupFigure}
 use Rattle.coverage.specs.declared.tally.Tallies.{Tallies}
-use Rattle.coverage.specs.Tallies.{itemTotal, itemCovered, Tallied}
+use Rattle.coverage.specs.Tallies.{itemTotal, itemCovered, Tallied, ItemNumbers}
 use Rattle.coverage.specs.Items.{leastsOf, itemWith, meanOf, Within}
 use Rattle.coverage.specs.Answers.{itemAnswer, groupAnswer, TalliesOf}
 use Rattle.arrays.proofs.PutLaws.{front-kept}
 use Rattle.coverage.proofs.TallyLaws.{total-exact, covered-exact}
 use Rattle.coverage.proofs.ItemLaws.{least-there, items-few}
+use Rattle.coverage.proofs.NumberLaws.{items-below}
 
 pub items-length : (t : Table) → length (itemsOf t (counters t)) ≡ counterTotal t
 unfolding itemsOf
@@ -66,6 +69,12 @@ module _ (b : List ℕ) (ok : accepted b ≡ true) (w : List ℕ) (long : longEn
 
     pub flags-room : k ≤ length fs
     flags-room = flags-front .1
+
+    pub numbers-there : ItemNumbers k xs
+    unfolding ItemNumbers
+    numbers-there i h =
+        subst (λ (x : ℕ). x < 24) (getD-take k xs i 0 h)
+        (all-at (λ x. x < 24) 0 (omega arith) (take k xs) (subst (All (λ x. x < 24)) (sym (items-front .0)) (items-below b ok)) i)
 
     total-now : (j : ℕ) → itemTotal j (take k xs) (take k fs) ≡ total (tableOf b) j (counters (tableOf b))
     total-now j = ap₂ (itemTotal j) (items-front .0) (flags-front .0) ∙ total-exact (tableOf b) j (counters (tableOf b))

@@ -1,3 +1,4 @@
 pub mod AnswerLaws
 pub mod ItemLaws
+pub mod NumberLaws
 pub mod TallyLaws

@@ -108,8 +108,8 @@ module _ (xs fs w : List ℕ) (i n : ℕ) (h : i < n) (hx : n ≤ length xs) (hf
 
   -- of all items: that of x is raised, the others stay
   pub totals-on : (a : List ℕ) (v : ℕ) → x < length a → v ≡ asBit (eqb (getD fs i 0) 1) + getD a x 0
-      → ((j : ℕ) → j < 256 → getD a j 0 + leftTotal j xs fs i n ≡ itemTotal j (take n xs) (take n fs))
-      → (j : ℕ) → j < 256 → getD (set a x v) j 0 + leftTotal j xs fs (i + 1) n ≡ itemTotal j (take n xs) (take n fs)
+      → ((j : ℕ) → j < 24 → getD a j 0 + leftTotal j xs fs i n ≡ itemTotal j (take n xs) (take n fs))
+      → (j : ℕ) → j < 24 → getD (set a x v) j 0 + leftTotal j xs fs (i + 1) n ≡ itemTotal j (take n xs) (take n fs)
   totals-on a v k q inv j l = go (eqb x j) refl
     where
       go : (b : Bool) → eqb x j ≡ b → getD (set a x v) j 0 + leftTotal j xs fs (i + 1) n ≡ itemTotal j (take n xs) (take n fs)
@@ -124,8 +124,8 @@ module _ (xs fs w : List ℕ) (i n : ℕ) (h : i < n) (hx : n ≤ length xs) (hf
           (other ∙ omega (arith, ap (λ (c : Bool). asBit (c && eqb (getD fs i 0) 1)) e))
 
   pub covereds-on : (leasts a : List ℕ) (v : ℕ) → x < length a → v ≡ asBit (eqb (getD fs i 0) 1 && leb (getD leasts x 0) (getD w (2 + i) 0)) + getD a x 0
-      → ((j : ℕ) → j < 256 → getD a j 0 + leftCovered j (getD leasts j 0) xs fs w i n ≡ itemCovered j (getD leasts j 0) (take n xs) (take n fs) (take n (drop 2 w)))
-      → (j : ℕ) → j < 256 → getD (set a x v) j 0 + leftCovered j (getD leasts j 0) xs fs w (i + 1) n ≡ itemCovered j (getD leasts j 0) (take n xs) (take n fs) (take n (drop 2 w))
+      → ((j : ℕ) → j < 24 → getD a j 0 + leftCovered j (getD leasts j 0) xs fs w i n ≡ itemCovered j (getD leasts j 0) (take n xs) (take n fs) (take n (drop 2 w)))
+      → (j : ℕ) → j < 24 → getD (set a x v) j 0 + leftCovered j (getD leasts j 0) xs fs w (i + 1) n ≡ itemCovered j (getD leasts j 0) (take n xs) (take n fs) (take n (drop 2 w))
   covereds-on leasts a v k q inv j l = go (eqb x j) refl
     where
       whole : ℕ

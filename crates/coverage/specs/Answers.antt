@@ -21,7 +21,7 @@ groupAnswer t w = groupCase (groupFigure t (counters t) (countsOf t w))
 
 -- the tallies of all items in the register w
 pub record TalliesOf (t : Table) (w : List ℕ) (r : Tallies) : Type 0 where
-  pub totals-sized : length (r .totals) ≡ 256
-  pub covered-sized : length (r .covered) ≡ 256
+  pub totals-sized : length (r .totals) ≡ 24
+  pub covered-sized : length (r .covered) ≡ 24
   pub totals-are : (j : ℕ) → j < itemCount t → getD (r .totals) j 0 ≡ total t j (counters t)
   pub covered-are : (j : ℕ) → j < itemCount t → getD (r .covered) j 0 ≡ covered t j (counters t) (countsOf t w)

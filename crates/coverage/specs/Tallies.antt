@@ -22,9 +22,13 @@ itemCovered j least (x ∷ xs) [] ns = 0
 itemCovered j least (x ∷ xs) (f ∷ fs) [] = 0
 itemCovered j least (x ∷ xs) (f ∷ fs) (n ∷ ns) = asBit ((eqb x j && eqb f 1) && leb least n) + itemCovered j least xs fs ns
 
--- the tallies of every item below 256, whose at-leasts are `leasts`
+-- the first n are items of a table, which has at most 24
+unfoldable pub ItemNumbers : ℕ → List ℕ → Type 0
+ItemNumbers n xs = (i : ℕ) → i < n → getD xs i 0 < 24
+
+-- the tallies of every item, whose at-leasts are `leasts`
 pub record Tallied (xs fs ns leasts : List ℕ) (r : Tallies) : Type 0 where
-  pub totals-sized : length (r .totals) ≡ 256
-  pub covered-sized : length (r .covered) ≡ 256
-  pub totals : (j : ℕ) → j < 256 → getD (r .totals) j 0 ≡ itemTotal j xs fs
-  pub covered : (j : ℕ) → j < 256 → getD (r .covered) j 0 ≡ itemCovered j (getD leasts j 0) xs fs ns
+  pub totals-sized : length (r .totals) ≡ 24
+  pub covered-sized : length (r .covered) ≡ 24
+  pub totals : (j : ℕ) → j < 24 → getD (r .totals) j 0 ≡ itemTotal j xs fs
+  pub covered : (j : ℕ) → j < 24 → getD (r .covered) j 0 ≡ itemCovered j (getD leasts j 0) xs fs ns

@@ -27,7 +27,7 @@ fn tallies_in(flags: &mut [u8], labels: &mut [u8], t: &[u8], register: &[u32]) -
     let x = put_kinds(labels, t);
     put_totals(flags, t, labels, x);
     put_items(labels, t, x);
-    let mut leasts = [0u32; 256];
+    let mut leasts = [0u32; 24];
     put_leasts(&mut leasts, t);
     tally_all(labels, flags, register, x.counters, &leasts)
 }

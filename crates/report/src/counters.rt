@@ -118,7 +118,7 @@ pub fn say_counters(out: &mut [u8], table: &[u8], register: &[u32], kinds: &[u8]
     put_items(&mut items, table, x);
     let mut totals = [0u8; 12416];
     put_totals(&mut totals, table, &all, x);
-    let mut leasts = [0u32; 256];
+    let mut leasts = [0u32; 24];
     put_leasts(&mut leasts, table);
     say_places(out, register, kinds, &items, &totals, &leasts, points);
 }

@@ -2,7 +2,7 @@ use borrow.Author.Needs.{needs}
 use native.Mathlib.Omega.{arith}
 use Rattle.model.specs.Format.{tableOf}
 use Rattle.sampling.proofs.Joins.{labelled}
-use Rattle.coverage.proofs.AnswerLaws.{counters-few, counters-there, items-room, flags-room, tallies-whole}
+use Rattle.coverage.proofs.AnswerLaws.{counters-few, counters-there, items-room, flags-room, numbers-there, tallies-whole}
 use Rattle.coverage.proofs.figure.tallies_in.Statement.{statement}
 use Rattle.coverage.proofs.figure.tallies_in.Tie as tie
 
@@ -37,7 +37,7 @@ tally-all-requires c κs =
     let f = c .before .before .before .before .before .before .before .before .before .before .before .before .put-totals in
     let l = c .before .before .before .before .put-leasts in
     let e = k .ensures .0 .counters in
-    (items-room (a .t .now) (p .0 .0) (a .register .now) (p .0 .1) (k .result .counters) e (k .last .0) (i .last .0) (a .flags .now) (f .last .0) (i .ensures) (i .kept .0) (f .ensures) (f .kept .0), flags-room (a .t .now) (p .0 .0) (a .register .now) (p .0 .1) (k .result .counters) e (k .last .0) (i .last .0) (a .flags .now) (f .last .0) (i .ensures) (i .kept .0) (f .ensures) (f .kept .0), counters-there (a .t .now) (p .0 .0) (a .register .now) (p .0 .1) (k .result .counters) e, counters-few (a .t .now) (p .0 .0) (a .register .now) (p .0 .1) (k .result .counters) e, omega (arith, l .kept .0))
+    (items-room (a .t .now) (p .0 .0) (a .register .now) (p .0 .1) (k .result .counters) e (k .last .0) (i .last .0) (a .flags .now) (f .last .0) (i .ensures) (i .kept .0) (f .ensures) (f .kept .0), flags-room (a .t .now) (p .0 .0) (a .register .now) (p .0 .1) (k .result .counters) e (k .last .0) (i .last .0) (a .flags .now) (f .last .0) (i .ensures) (i .kept .0) (f .ensures) (f .kept .0), counters-there (a .t .now) (p .0 .0) (a .register .now) (p .0 .1) (k .result .counters) e, counters-few (a .t .now) (p .0 .0) (a .register .now) (p .0 .1) (k .result .counters) e, omega (arith, l .kept .0), numbers-there (a .t .now) (p .0 .0) (a .register .now) (p .0 .1) (k .result .counters) e (k .last .0) (i .last .0) (a .flags .now) (f .last .0) (i .ensures) (i .kept .0) (f .ensures) (f .kept .0))
 
 same-length : tie.Need-same-length
 same-length c = search needs

@@ -2,6 +2,7 @@
 use mathlib.Core.Path.{_≡_, refl}
 use Prim.Native.Nat.{ℕ, _+_, _-_, _≤_, _<_}
 use native.Mathlib.Omega.{arith}
+use borrow.Author.Needs.{needs}
 use lib.ListN.{length, take, drop, getD, length-set, getD-replicate}
 use Rattle.coverage.specs.Tallies.{itemTotal, itemCovered}
 use Rattle.coverage.proofs.TallyLaws.{leftTotal, leftCovered, total-start, covered-start, total-end, covered-end, total-most, covered-most, totals-on, covereds-on}
@@ -10,9 +11,9 @@ use Rattle.coverage.proofs.tally.tally_all.Tie as tie
 
 abbrev Inv-loop : tie.InvT-loop
 Inv-loop items flags register n leasts totals₀ covered₀ i₀ totals covered i =
-    (i ≤ n) × (length totals ≡ 256) × (length covered ≡ 256)
-    × ((j : ℕ) → j < 256 → getD totals j 0 + leftTotal j items flags i n ≡ itemTotal j (take n items) (take n flags))
-    × ((j : ℕ) → j < 256 → getD covered j 0 + leftCovered j (getD leasts j 0) items flags register i n ≡ itemCovered j (getD leasts j 0) (take n items) (take n flags) (take n (drop 2 register)))
+    (i ≤ n) × (length totals ≡ 24) × (length covered ≡ 24)
+    × ((j : ℕ) → j < 24 → getD totals j 0 + leftTotal j items flags i n ≡ itemTotal j (take n items) (take n flags))
+    × ((j : ℕ) → j < 24 → getD covered j 0 + leftCovered j (getD leasts j 0) items flags register i n ≡ itemCovered j (getD leasts j 0) (take n items) (take n flags) (take n (drop 2 register)))
 
 abbrev μ-loop : tie.MeasureT-loop
 μ-loop items flags register n leasts totals₀ covered₀ i₀ totals covered i = n - i
@@ -23,15 +24,12 @@ loop-holds c =
       omega arith,
       refl,
       refl,
-      λ j h. omega (arith, getD-replicate {A = ℕ} 256 j 0 0 h, total-start j (a .items .now) (a .flags .now) (a .n)),
-      λ j h. omega (arith, getD-replicate {A = ℕ} 256 j 0 0 h, covered-start j (getD (a .leasts .now) j 0) (a .items .now) (a .flags .now) (a .register .now) (a .n)),
+      λ j h. omega (arith, getD-replicate {A = ℕ} 24 j 0 0 h, total-start j (a .items .now) (a .flags .now) (a .n)),
+      λ j h. omega (arith, getD-replicate {A = ℕ} 24 j 0 0 h, covered-start j (getD (a .leasts .now) j 0) (a .items .now) (a .flags .now) (a .register .now) (a .n)),
     )
 
-shared-slice-read-wide : tie.Need-shared-slice-read-wide Inv-loop μ-loop
-shared-slice-read-wide c = omega arith
-
-wide-requires : tie.Need-wide-requires Inv-loop μ-loop
-wide-requires c κs = tt
+item-at-requires : tie.Need-item-at-requires Inv-loop μ-loop
+item-at-requires c κs = search needs
 
 shared-slice-read-hit : tie.Need-shared-slice-read-hit Inv-loop μ-loop
 shared-slice-read-hit c = omega arith
@@ -59,9 +57,9 @@ array-read-raised c = omega arith
 
 raised-requires : tie.Need-raised-requires Inv-loop μ-loop
 raised-requires c κs =
-    let a = c .before .before .before .before .before .before .before .before .before .before .before .args in
-    let x = c .before .before .before .wide in
-    omega (arith, x .ensures .1, total-most (x .result) (a .items .now) (a .flags .now) (a .n) (omega arith), c .before .before .before .before .before .before .loop .inv .3 (x .result) (x .ensures .1))
+    let a = c .before .before .before .before .before .before .before .before .before .before .args in
+    let x = c .before .before .before .item-at in
+    omega (arith, x .ensures .1, total-most (x .result) (a .items .now) (a .flags .now) (a .n) (omega arith), c .before .before .before .before .before .loop .inv .3 (x .result) (x .ensures .1))
 
 mul-totals : tie.Need-mul-totals Inv-loop μ-loop
 mul-totals c = omega arith
@@ -77,9 +75,9 @@ array-read-raised-2 c = omega arith
 
 raised-requires-2 : tie.Need-raised-requires-2 Inv-loop μ-loop
 raised-requires-2 c κs =
-    let a = c .before .before .before .before .before .before .before .before .before .before .before .before .args in
-    let x = c .before .before .before .before .wide in
-    omega (arith, covered-most (x .result) (getD (a .leasts .now) (x .result) 0) (a .items .now) (a .flags .now) (take (a .n) (drop 2 (a .register .now))) (a .n) (omega arith), c .before .before .before .before .before .before .before .loop .inv .4 (x .result) (x .ensures .1))
+    let a = c .before .before .before .before .before .before .before .before .before .before .before .args in
+    let x = c .before .before .before .before .item-at in
+    omega (arith, covered-most (x .result) (getD (a .leasts .now) (x .result) 0) (a .items .now) (a .flags .now) (take (a .n) (drop 2 (a .register .now))) (a .n) (omega arith), c .before .before .before .before .before .before .loop .inv .4 (x .result) (x .ensures .1))
 
 mul-covered : tie.Need-mul-covered Inv-loop μ-loop
 mul-covered c = omega arith
@@ -95,9 +93,9 @@ loop-less c = omega arith
 
 loop-again : tie.Need-loop-again Inv-loop μ-loop
 loop-again c =
-    let l = c .before .before .before .before .before .before .before .before .loop in
-    let a = c .before .before .before .before .before .before .before .before .before .before .before .before .before .args in
-    let x = c .before .before .before .before .before .wide in (
+    let l = c .before .before .before .before .before .before .before .loop in
+    let a = c .before .before .before .before .before .before .before .before .before .before .before .before .args in
+    let x = c .before .before .before .before .before .item-at in (
       omega arith,
       simp length-set (l .inv .1),
       simp length-set (l .inv .2),
@@ -123,8 +121,7 @@ tally-all-spec =
     Inv-loop
     μ-loop
     loop-holds
-    shared-slice-read-wide
-    wide-requires
+    item-at-requires
     shared-slice-read-hit
     mul-enough
     shared-slice-read-enough
