@@ -57,14 +57,14 @@ module _ (s : List ℕ) (ok : accepted s ≡ true) where
     enough = omega (arith, plan-within s ok x own, rows-counted s ok)
 
     module _ (need : ℕ) (is : need ≡ roomFor (layoutOf s) x) where
-      pub small-fits : ((leb (x .points) 4 && leb (x .counters) 512) && leb need 1024) ≡ true → Sized (tableOf s) 1024 3178
+      pub small-fits : ((leb (x .points) 4 && leb (x .counters) 512) && leb need 768) ≡ true → Sized (tableOf s) 768 3178
       small-fits h =
-          let one = and-left (leb (x .points) 4 && leb (x .counters) 512) (leb need 1024) h in
+          let one = and-left (leb (x .points) 4 && leb (x .counters) 512) (leb need 768) h in
           let two = both-within (x .points) 4 (x .counters) 512 one in
-          let fits = leb-true need 1024 (and-right (leb (x .points) 4 && leb (x .counters) 512) (leb need 1024) h) in
+          let fits = leb-true need 768 (and-right (leb (x .points) 4 && leb (x .counters) 512) (leb need 768) h) in
           record { plan = omega (arith, enough, is); lists = omega (arith, lists-size s ok, illegals-most (tableOf s), own .points, own .counters, two .0, two .1) }
 
-      pub medium-fits : (leb (x .counters) 2048 && leb need 6144) ≡ true → Sized (tableOf s) 6144 11074
+      pub medium-fits : (leb (x .counters) 2048 && leb need 4608) ≡ true → Sized (tableOf s) 4608 11074
       medium-fits h =
-          let two = both-within (x .counters) 2048 need 6144 h in
+          let two = both-within (x .counters) 2048 need 4608 h in
           record { plan = omega (arith, enough, is, two .1); lists = omega (arith, lists-size s ok, few-points s ok, listed-few, own .counters, two .0) }

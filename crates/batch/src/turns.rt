@@ -96,7 +96,7 @@ fn each(
 // next one, since a compiler then keeps the classes' arrays out of its frame and each other's.
 
 // How many words of plan, elements of lists, counters and hits a class has room for; the largest is for any table.
-const SMALL_PLAN: usize = 1024;
+const SMALL_PLAN: usize = 768;
 
 const SMALL_LISTS: usize = 3178;
 
@@ -104,7 +104,7 @@ const SMALL_COUNTERS: usize = 512;
 
 const SMALL_HITS: usize = 768;
 
-const MEDIUM_PLAN: usize = 6144;
+const MEDIUM_PLAN: usize = 4608;
 
 const MEDIUM_LISTS: usize = 11074;
 
@@ -201,7 +201,7 @@ fn small(
     kinds: &[u8],
     x: Index,
 ) -> Taken
-    requires { ⌜ Ready (now t) (now register) × Indexed (tableOf (now t)) x × Labelled (tableOf (now t)) (now kinds) × Sized (tableOf (now t)) 1024 3178 ⌝ }
+    requires { ⌜ Ready (now t) (now register) × Indexed (tableOf (now t)) x × Labelled (tableOf (now t)) (now kinds) × Sized (tableOf (now t)) 768 3178 ⌝ }
     ensures { λ r. ⌜ Took (turns (now (t .entry)) (tableOf (now (t .entry))) (now (register .entry)) (now (s .entry)) (now (reports .entry))) r (now (register .exit)) (now (reports .exit)) ⌝ }
 {
     let mut plan = [0u64; SMALL_PLAN];
@@ -218,7 +218,7 @@ fn medium(
     kinds: &[u8],
     x: Index,
 ) -> Taken
-    requires { ⌜ Ready (now t) (now register) × Indexed (tableOf (now t)) x × Labelled (tableOf (now t)) (now kinds) × Sized (tableOf (now t)) 6144 11074 ⌝ }
+    requires { ⌜ Ready (now t) (now register) × Indexed (tableOf (now t)) x × Labelled (tableOf (now t)) (now kinds) × Sized (tableOf (now t)) 4608 11074 ⌝ }
     ensures { λ r. ⌜ Took (turns (now (t .entry)) (tableOf (now (t .entry))) (now (register .entry)) (now (s .entry)) (now (reports .entry))) r (now (register .exit)) (now (reports .exit)) ⌝ }
 {
     let mut plan = [0u64; MEDIUM_PLAN];

@@ -49,11 +49,11 @@ fn plan_in(
 // ---- size classes
 
 fn small_plan(has: &mut [u8], marks: &mut [u16], t: &[u8], x: Index)
-    requires { ⌜ (accepted (now t) ≡ true) × Indexed (tableOf (now t)) x × (planNeed (tableOf (now t)) ≤ 512) × (pointTotal (tableOf (now t)) ≤ 4) ⌝ }
+    requires { ⌜ (accepted (now t) ≡ true) × Indexed (tableOf (now t)) x × (planNeed (tableOf (now t)) ≤ 768) × (pointTotal (tableOf (now t)) ≤ 4) ⌝ }
     requires { ⌜ (256 * pointTotal (tableOf (now t)) ≤ length (now has)) × (markTotal (tableOf (now t)) ≤ length (now marks)) ⌝ }
     ensures { λ _. ⌜ Tells (hasValue (tableOf (now (t .entry)))) (tableOf (now (t .entry))) (now (has .exit)) × Marked (tableOf (now (t .entry))) (now (marks .exit)) ⌝ }
 {
-    let mut plan = [0u64; 512];
+    let mut plan = [0u64; 768];
     let mut lists = [0u16; 1088];
     plan_in(has, marks, &mut plan, &mut lists, t, x);
 }
@@ -98,7 +98,7 @@ pub fn put_planned(has: &mut [u8], marks: &mut [u16], t: &[u8], x: Index, class:
 {
     let need = plan_words(t, x);
     if class == 0 {
-        if (x.points <= 4) & (need <= 512) {
+        if (x.points <= 4) & (need <= 768) {
             small_plan(has, marks, t, x);
             return;
         }

@@ -47,7 +47,7 @@ put-planned-small-plan-requires : (t : ℕ) → put-planned-lts.Need-small-plan-
 put-planned-small-plan-requires t c κs =
     let p = c .before .before .before .before .before .before .before .before .before .pre .1 in
     let need = c .before .before .before .before .before .plan-words in
-    let h = both-within (c .before .before .before .before .before .before .before .before .before .args .x .points) 4 (need .result) 512 (c .before .before .if2 .taken) in
+    let h = both-within (c .before .before .before .before .before .before .before .before .before .args .x .points) 4 (need .result) 768 (c .before .before .if2 .taken) in
     let room = plan-within _ (p .0 .0) _ (p .0 .1) in
     ((p .0 .0, p .0 .1, omega (arith, room, h .1, need .ensures), omega (arith, p .0 .1 .points, h .0)), p .1)
 
