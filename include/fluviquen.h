@@ -1,7 +1,7 @@
 /* Fluviquen: a functional-coverage register whose every answer is proved. For x86-64 Linux.
  *
  * Each function returns a refusal number, 0 (FLUVIQUEN_ACCEPTED) for acceptance. Nothing is kept between calls, nothing is allocated, and
- * every call ends with an answer, whatever the bytes and words are. A call needs up to 320 KB of stack, with a small table 48 KB. docs/RULES.md has the rules,
+ * every call ends with an answer, whatever the bytes and words are. A call needs up to 256 KB of stack, with a small table 32 KB. docs/RULES.md has the rules,
  * docs/TABLE.md the table's bytes.
  *
  * Of the caller's pointers:

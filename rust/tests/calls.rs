@@ -326,8 +326,9 @@ fn every_call(bytes: &[u8], words: &[u32]) -> Seen {
     (register, report, figures, group)
 }
 
-/// Every call on a thread with 48 KB of stack on the smallest table, and with
-/// 320 KB on one with the largest crosses and expressions.
+/// Every call on a thread with 40 KB of stack on the smallest table, and with
+/// 272 KB on one with the largest crosses and expressions: 32 and 256 KB for the
+/// library, the rest for the thread and this test.
 #[test]
 fn a_small_stack() {
     let on_thread = |kilobytes: usize, bytes: Vec<u8>, words: Vec<u32>| {
@@ -335,7 +336,7 @@ fn a_small_stack() {
         let calls = move || every_call(&bytes, &words);
         thread.spawn(calls).unwrap().join().unwrap()
     };
-    let (register, report, figures, group) = on_thread(48, smallest(), ONE.to_vec());
+    let (register, report, figures, group) = on_thread(40, smallest(), ONE.to_vec());
     assert_eq!(register, [1, 4, 0, 4, 0]);
     assert_eq!((report, figures), (vec![], vec![Some(50.0)]));
     assert_eq!(group, Some(50_000_000));
@@ -347,7 +348,7 @@ fn a_small_stack() {
         illegal_places: 64 + 1,
     };
     assert_eq!(measure(&bytes), Ok(needs));
-    let (register, report, figures, group) = on_thread(320, bytes, vec![0; 36]);
+    let (register, report, figures, group) = on_thread(272, bytes, vec![0; 36]);
     assert_eq!(register.len(), needs.words);
     // The last sample is the second reading after the restart: every illegal
     // sequence is raised, and the illegal cross bin.
