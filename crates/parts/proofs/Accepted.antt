@@ -34,11 +34,11 @@ use Rattle.layout.specs.declared.Layout.{Layout}
 use Rattle.values.specs.Points.{Near}
 use Rattle.values.proofs.PointExact.{point-raw, few-counters, bins-raw}
 use Rattle.values.proofs.Ready.{all-near, wide, some-auto}
-use Rattle.spans.specs.Point.{rangesListed}
+use Rattle.spans.specs.Point.{rangesListed, coverListed}
 use Rattle.spans.specs.Collected.{fitsFrom}
 use Rattle.spans.proofs.Ends.{both}
 use Rattle.spans.proofs.CollectLaws.{length-ranges}
-use Rattle.spans.proofs.Point.{ranges-most, point-listed}
+use Rattle.spans.proofs.Point.{listed-apart, ranges-most, point-listed}
 use Rattle.parts.specs.Rows.{Source, countOf, settledRanges, rowRanges, isOwn, dealable, rising, ownSources, autoSources, sources, Row, partsAt, rowsFrom, partTotal, partFlags, distributedBit, distributedFlags}
 use Rattle.parts.specs.Words.{planRowAt, planRowsAt, ownAt, listedIf, ownListed, If, Fit, Fits, rangeTotal, sourcesAt, Planned, Room}
 use Rattle.parts.specs.Point.{RowsOf, climbs}
@@ -229,8 +229,8 @@ module _ (s : List ℕ) (ok : accepted s ≡ true) (p : ℕ) (inside : p < point
         plan .before,
       )
     where
-      few-own : rangesListed T p ≤ 1024
-      few-own = omega (arith, point-listed s ok p, ranges-most s ok)
+      few-own : coverListed T p ≤ 1024
+      few-own = omega (arith, listed-apart T p, point-listed s ok p, ranges-most s ok)
 
   -- ---- by places
 
@@ -250,13 +250,13 @@ module _ (s : List ℕ) (ok : accepted s ≡ true) (p : ℕ) (inside : p < point
   few-parts = omega (arith, total-parts (ownSources (lowest (pointAt T p)) p (T .valueBins)) (autoSources T p), parts-are, few-covers)
 
   room-raw : (at : ℕ) (x : List ℕ) → at + 7 * (rangesListed T p + 1) ≤ length x → Room s (lowest (pointRecord s (recordsPlace s 0 + 11 * p))) p (recordsPlace s 1) (recordsPlace s 2) (recordCount s 1) at x
-  unfolding rangesListed
+  unfolding coverListed
   room-raw at x h =
       let a = recordsPlace s 1 in
       let r = recordsPlace s 2 in
       let n = recordCount s 1 in
       let ss = ownSources low-raw p (binsAt s a r n) in
-      let ranges : rangeTotal ss ≤ sumOf (λ b. cond (eqb (b .point) p) (length (b .ranges)) 0) (T .valueBins) = omega (arith, ap rangeTotal own-bins, own-fewer (lowest (pointAt T p)) p (T .valueBins)) in
+      let ranges : rangeTotal ss ≤ rangesListed T p = omega (arith, ap rangeTotal own-bins, own-fewer (lowest (pointAt T p)) p (T .valueBins), listed-apart T p) in
       record {
         some = omega arith;
         words = omega (arith, ap length (words-are s low-raw p 0 a r n), length-all 0 ss);

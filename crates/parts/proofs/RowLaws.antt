@@ -14,14 +14,14 @@ use borrow.Author.Tests.{le-leb, eqb-true}
 use Rattle.model.specs.Lists.{sumOf}
 use Rattle.model.specs.Table.{Point, Form, single, perValue, fixed, Range, span, pattern, ValueBin, Table, isCover}
 use Rattle.model.specs.Values.{lowest}
-use Rattle.model.specs.Ranges.{size}
+use Rattle.model.specs.Ranges.{size, rangesOf}
 use Rattle.model.specs.Counters.{pointAt, hasAuto}
 use Rattle.model.specs.Format.{allowsPatterns}
 use Rattle.model.proofs.Readers.{All, all-append}
 use Rattle.model.proofs.WellFormed.{GoodPoint, Legal, GoodBin, WellFormed}
 use Rattle.model.proofs.Exact.{SpanOf, Divisible}
 use Rattle.model.proofs.TableExact.{point-at, divisible}
-use Rattle.spans.specs.Point.{rangesListed}
+use Rattle.spans.specs.Point.{coverListed}
 use Rattle.spans.proofs.Ends.{both}
 use Rattle.parts.specs.Rows.{Source, countOf, shareOf, rowRanges, binSource, ownSources, autoSource, autoSources, sources, Row, rangeRows, sourceRows, rowsFrom}
 use Rattle.parts.specs.Words.{rangesIn, rangeTotal}
@@ -131,26 +131,25 @@ form-fewer low single rs = omega arith
 form-fewer low perValue rs = settled-fewer low rs
 form-fewer low (fixed n) rs = omega arith
 
-pub own-fewer : (low p : ℕ) (vs : List ValueBin) → rangeTotal (ownSources low p vs) ≤ sumOf (λ b. cond (eqb (b .point) p) (length (b .ranges)) 0) vs
-unfolding ownSources rangeTotal sumOf
+pub own-fewer : (low p : ℕ) (vs : List ValueBin) → rangeTotal (ownSources low p vs) ≤ length (rangesOf isCover p vs)
+unfolding ownSources rangeTotal sumOf rangesOf
 own-fewer low p [] = omega arith
-own-fewer low p (u ∷ vs) = go (eqb (u .point) p) (isCover (u .kind)) (own-fewer low p vs)
+own-fewer low p (u ∷ vs) = omega (arith, length-append (cond (eqb (u .point) p && isCover (u .kind)) (u .ranges) []) (rangesOf isCover p vs), go (eqb (u .point) p && isCover (u .kind)) (own-fewer low p vs))
   where
     rest : ℕ
-    rest = sumOf (λ b. cond (eqb (b .point) p) (length (b .ranges)) 0) vs
+    rest = length (rangesOf isCover p vs)
 
-    go : (b c : Bool) → sumOf rangesIn (ownSources low p vs) ≤ rest → sumOf rangesIn (cond (b && c) (binSource low u ∷ ownSources low p vs) (ownSources low p vs)) ≤ cond b (length (u .ranges)) 0 + rest
-    go true true h = omega (arith, form-fewer low (u .form) (u .ranges))
-    go true false h = omega arith
-    go false c h = omega arith
+    go : (c : Bool) → sumOf rangesIn (ownSources low p vs) ≤ rest → sumOf rangesIn (cond c (binSource low u ∷ ownSources low p vs) (ownSources low p vs)) ≤ length (cond c (u .ranges) []) + rest
+    go true h = omega (arith, form-fewer low (u .form) (u .ranges))
+    go false h = omega arith
 
 total-append : (xs ys : List Source) → rangeTotal (xs ++ ys) ≡ rangeTotal xs + rangeTotal ys
 unfolding rangeTotal sumOf
 total-append [] ys = omega arith
 total-append (x ∷ xs) ys = omega (arith, total-append xs ys)
 
-pub few-ranges : (t : Table) (p : ℕ) → rangeTotal (sources t p) ≤ rangesListed t p + 1
-unfolding sources autoSources rangesListed
+pub few-ranges : (t : Table) (p : ℕ) → rangeTotal (sources t p) ≤ coverListed t p + 1
+unfolding sources autoSources coverListed
 few-ranges t p = omega (arith, total-append (ownSources (lowest (pointAt t p)) p (t .valueBins)) (autoSources t p), own-fewer (lowest (pointAt t p)) p (t .valueBins), go (hasAuto t p))
   where
     go : (c : Bool) → rangeTotal (cond c (autoSource (pointAt t p) ∷ []) []) ≤ 1

@@ -12,7 +12,7 @@ use Rattle.model.specs.Values.{lowest, highest}
 use Rattle.model.specs.Counters.{noCoverBin, pointAt, distributed}
 use Rattle.model.proofs.Readers.{All}
 use Rattle.arrays.specs.Flat.{covers}
-use Rattle.spans.specs.Point.{rangesListed}
+use Rattle.spans.specs.Point.{coverListed}
 use Rattle.parts.specs.Rows.{Row, partIn, partsAt}
 use Rattle.parts.specs.Words.{RowFits}
 
@@ -42,4 +42,4 @@ pub record RowsOf (t : Table) (p : ℕ) (rs : List Row) (m : ℕ) : Type 0 where
   pub fits : All (RowFits m) rs
   pub typed : All (λ r. Typed (pointAt t p) (r .range)) rs
   pub rises : climbs 0 rs ≡ true
-  pub few : length rs ≤ rangesListed t p + 1
+  pub few : length rs ≤ coverListed t p + 1

@@ -27,8 +27,8 @@ use Rattle.spans.specs.Collected.{fitsFrom, wordsFrom, Collectable}
 use Rattle.spans.specs.Part.{OwnPart}
 use Rattle.spans.proofs.PartLaws.{excluded-part}
 use Rattle.spans.proofs.Exact.{accepted-collectable}
-use Rattle.spans.proofs.Point.{spans-of, excluded-listed}
-use Rattle.spans.specs.Point.{SpansOf, freeValue, rangesListed}
+use Rattle.spans.proofs.Point.{spans-of, listed-apart, excluded-listed}
+use Rattle.spans.specs.Point.{SpansOf, freeValue, rangesListed, coverListed, excludedListed}
 use Rattle.parts.specs.Rows.{Row}
 use Rattle.parts.specs.Words.{planRowAt, planRowsAt}
 use Rattle.parts.specs.Point.{RowsOf}
@@ -106,20 +106,20 @@ plan-kept t p w w′ from mid cuts to c o h el e =
 
 -- ---- written: the n rows stand from `at` on; then the spans, then the pieces
 
-module _ (t : Table) (p m at n : ℕ) (l : List ℕ) (rowsOf : RowsOf t p (planRowsAt l at n) m) (few : m ≤ 256) (ws : List ℕ) (o : SpansOf t p ws) (short : length ws ≤ rangesListed t p) (low : ℕ) (el : low ≡ lowest (pointAt t p))
+module _ (t : Table) (p m at n : ℕ) (l : List ℕ) (rowsOf : RowsOf t p (planRowsAt l at n) m) (few : m ≤ 256) (ws : List ℕ) (o : SpansOf t p ws) (short : length ws ≤ excludedListed t p) (low : ℕ) (el : low ≡ lowest (pointAt t p))
     (room : at + pointNeed t p ≤ length l) where
   abbrev qs : List Piece
   qs = allPieces (freeValue ws low) (planRowsAt l at n)
 
-  number : n ≤ rangesListed t p + 1
+  number : n ≤ coverListed t p + 1
   number = omega (arith, length-rows (planRowAt l) 7 at n, rowsOf .few)
 
-  pieces-number : length qs ≤ rangesListed t p + 1 + length (covers t p)
+  pieces-number : length qs ≤ coverListed t p + 1 + length (covers t p)
   pieces-number = omega (arith, pieces-few t p m (freeValue ws low) (planRowsAt l at n) rowsOf, rowsOf .few, rowsOf .parts)
 
   -- there is room for the spans
   pub spans-room : at + 7 * n + length ws ≤ length l
-  spans-room = omega (arith, number)
+  spans-room = omega (arith, number, listed-apart t p)
 
   module _ (mid cuts : ℕ) (l₁ : List ℕ) (em : mid ≡ at + 7 * n) (ec : cuts ≡ mid + length ws) (e₁ : l₁ ≡ put mid ws l) where
     long₁ : length l₁ ≡ length l
@@ -139,7 +139,7 @@ module _ (t : Table) (p m at n : ℕ) (l : List ℕ) (rowsOf : RowsOf t p (planR
 
     -- there is room for the pieces
     pub pieces-room : cuts + 2 * length (allPieces (freeValue ws low) (planRowsAt l₁ at n)) ≤ length l₁
-    pieces-room = omega (arith, ap length same-pieces, long₁, pieces-number, number)
+    pieces-room = omega (arith, ap length same-pieces, long₁, pieces-number, number, listed-apart t p)
 
     module _ (to : ℕ) (l₂ : List ℕ) (et : to ≡ cuts + 2 * length (allPieces (freeValue ws low) (planRowsAt l₁ at n))) (e₂ : l₂ ≡ put cuts (pieceWords (allPieces (freeValue ws low) (planRowsAt l₁ at n))) l₁) where
       end : to ≡ cuts + 2 * length qs
@@ -210,7 +210,7 @@ module _ (t : Table) (p m at n : ℕ) (l : List ℕ) (rowsOf : RowsOf t p (planR
           ∙ sym (take-take at mid l₁ (omega arith)) ∙ ap (take at) (ap (take mid) e₁ ∙ take-put mid ws l (omega (arith, spans-room))) ∙ take-take at mid l (omega arith)
 
       pub ends-few : to ≤ at + pointNeed t p
-      ends-few = omega (arith, end, pieces-number, number)
+      ends-few = omega (arith, end, pieces-number, number, listed-apart t p)
 
 -- ---- words copied
 
@@ -238,7 +238,7 @@ module _ (s : List ℕ) (ok : accepted s ≡ true) (p b q m : ℕ) (own : OwnPar
 
   pub collectable : (room : ℕ) → rangesListed (tableOf s) p ≤ room → b < 1000000000 → q < 1000000000 → m ≤ 512 → Collectable s b q m p low room
   collectable room h hb hq hm =
-      let whole = accepted-collectable s ok p room (omega (arith, excluded-listed s ok p)) in
+      let whole = accepted-collectable s ok p room (omega (arith, excluded-listed s ok p, listed-apart (tableOf s) p)) in
       record {
         near = omega arith;
         nearRanges = omega arith;
@@ -250,5 +250,5 @@ module _ (s : List ℕ) (ok : accepted s ≡ true) (p b q m : ℕ) (own : OwnPar
   pub settled-spans : (ws : List ℕ) → Settled (wordsFrom low (excludedAt s b q m p)) ws → SpansOf (tableOf s) p ws
   settled-spans ws o = spans-of s ok p ws (subst (λ (xs : List ℕ). Settled xs ws) (ap₂ (λ (x : ℕ) (rs : List Range). wordsFrom x rs) e same) o)
 
-  pub spans-listed : length (excludedAt s b q m p) ≤ rangesListed (tableOf s) p
+  pub spans-listed : length (excludedAt s b q m p) ≤ excludedListed (tableOf s) p
   spans-listed = omega (arith, ap length same, excluded-listed s ok p)

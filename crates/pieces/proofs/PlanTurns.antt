@@ -44,13 +44,13 @@ module _ (t : Table) (n p at : ℕ) (h : p < n) (room : at + needFrom t p (n - p
   pub need-next : (end : ℕ) → end ≤ at + pointNeed t p → end + needFrom t (p + 1) (n - (p + 1)) ≤ planNeed t
   need-next end e = omega (arith, one-more)
 
-sum-need : (t : Table) (ps : List ℕ) → sumOf (pointNeed t) ps ≡ 10 * sumOf (rangesListed t) ps + 2 * sumOf (λ p. length (covers t p)) ps + 9 * length ps
+sum-need : (t : Table) (ps : List ℕ) → sumOf (pointNeed t) ps ≡ 9 * sumOf (rangesListed t) ps + 2 * sumOf (λ p. length (covers t p)) ps + 9 * length ps
 unfolding sumOf
 sum-need t [] = refl
 sum-need t (p ∷ ps) = omega (arith, sum-need t ps)
 
 module _ (s : List ℕ) (ok : accepted s ≡ true) where
-  pub plan-fits : planNeed (tableOf s) ≤ 10 * recordCount s 2 + 2 * sumOf (λ p. length (covers (tableOf s) p)) (upFrom 0 (pointTotal (tableOf s))) + 9 * pointTotal (tableOf s)
+  pub plan-fits : planNeed (tableOf s) ≤ 9 * recordCount s 2 + 2 * sumOf (λ p. length (covers (tableOf s) p)) (upFrom 0 (pointTotal (tableOf s))) + 9 * pointTotal (tableOf s)
   unfolding planNeed
   plan-fits = omega (arith, sum-need (tableOf s) (upFrom 0 (pointTotal (tableOf s))), ranges-listed s ok (pointTotal (tableOf s)), length-upFrom 0 (pointTotal (tableOf s)))
 
@@ -59,12 +59,12 @@ module _ (s : List ℕ) (ok : accepted s ≡ true) where
   covers-most zero i h = omega arith
   covers-most (suc n) i h = omega (arith, few-covers s ok i (omega arith), covers-most n (suc i) (omega arith))
 
-  pub plan-need : planNeed (tableOf s) ≤ 18576
+  pub plan-need : planNeed (tableOf s) ≤ 17552
   plan-need = omega (arith, plan-fits, ranges-most s ok, covers-most (pointTotal (tableOf s)) 0 (omega arith), few-points s ok)
 
   -- at point p
   pub turn-room : (n p at : ℕ) → n ≡ pointTotal (tableOf s) → p < n → at + needFrom (tableOf s) p (n - p) ≤ planNeed (tableOf s)
-      → (p < pointTotal (tableOf s)) × (p < 16) × (at + pointNeed (tableOf s) p ≤ planNeed (tableOf s)) × (planNeed (tableOf s) ≤ 18576)
+      → (p < pointTotal (tableOf s)) × (p < 16) × (at + pointNeed (tableOf s) p ≤ planNeed (tableOf s)) × (planNeed (tableOf s) ≤ 17552)
   turn-room n p at e h room = (omega arith, omega (arith, few-points s ok), need-here (tableOf s) n p at h room, plan-need)
 
 -- ---- the first n points are planned, below c

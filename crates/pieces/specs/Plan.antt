@@ -32,9 +32,9 @@ pub record PointPlan (t : Table) (p : ℕ) (w : List ℕ) (from mid cuts to : �
 unfoldable pub ValuesPlan : Table → List ℕ → List ℕ → Type 0
 ValuesPlan t w bounds = (p : ℕ) → p < pointTotal t → PointPlan t p w (getD bounds (3 * p) 0) (getD bounds (3 * p + 1) 0) (getD bounds (3 * p + 2) 0) (getD bounds (3 * p + 3) 0)
 
--- how many words the plan of point p takes at most: one for each span, two for each piece, seven for each row
+-- how many words the plan of point p takes at most: a range makes a row and a piece, seven words and two, or a span, one word; auto bins make one row and piece more, and each part a piece
 abbrev pub pointNeed : Table → ℕ → ℕ
-pointNeed t p = 3 * rangesListed t p + 2 * (length (covers t p) + 1) + 7 * (rangesListed t p + 1)
+pointNeed t p = 9 * rangesListed t p + 2 * length (covers t p) + 9
 
 -- and the plan of all points
 unfoldable pub planNeed : Table → ℕ

@@ -17,7 +17,7 @@ ghost use Rattle.model.specs.Format.{accepted, tableOf};
 ghost use Rattle.model.specs.Raw.{recordCount};
 ghost use Rattle.model.specs.Register.{pointTotal};
 ghost use Rattle.arrays.specs.Put.{put};
-ghost use Rattle.spans.specs.Point.{SpansOf, rangesListed};
+ghost use Rattle.spans.specs.Point.{SpansOf, rangesListed, excludedListed};
 ghost use Rattle.spans.specs.Part.{OwnPart, OwnBins};
 ghost use Rattle.parts.specs.Words.{planRowsAt};
 ghost use Rattle.parts.specs.Point.{RowsOf};
@@ -27,7 +27,7 @@ ghost use Rattle.pieces.specs.Plan.{PointPlan, ValuesPlan, pointNeed, pl
 fn put_excluded(out: &mut [u64], room: &mut [u64], t: &[u8], own: Bins, p: usize) -> usize
     requires { ⌜ (accepted (now t) ≡ true) × (p < pointTotal (tableOf (now t))) × (rangesListed (tableOf (now t)) p ≤ length (now room)) × (length (now room) ≤ length (now out)) ⌝ }
     requires { ⌜ OwnPart (now t) p (own .bins) (own .ranges) (own .count) × (own .bins < 1000000000) × (own .ranges < 1000000000) × (own .count ≤ 512) ⌝ }
-    ensures { λ r. ⌜ SpansOf (tableOf (now (t .entry))) p (take r (now (out .exit))) × (r ≤ rangesListed (tableOf (now (t .entry))) p) × (r ≤ length (now (out .entry))) ⌝ }
+    ensures { λ r. ⌜ SpansOf (tableOf (now (t .entry))) p (take r (now (out .exit))) × (r ≤ excludedListed (tableOf (now (t .entry))) p) × (r ≤ length (now (out .entry))) ⌝ }
 {
     let q = limits_of(t, p);
     spans_of(out, room, t, own, p as u8, q.low)
@@ -63,7 +63,7 @@ pub struct Next {
 // The plan of a point whose rows are written, by its excluded spans.
 fn put_by_rows(plan: &mut [u64], b: Built, spans: &[u64], t: &[u8], next: Next) -> Ends
     requires { ⌜ (accepted (now t) ≡ true) × (next .point < pointTotal (tableOf (now t))) × RowsOf (tableOf (now t)) (next .point) (planRowsAt (now plan) (next .at) (b .rows)) (b .parts) × (b .rows ≤ 1025) × (b .parts ≤ 256) ⌝ }
-    requires { ⌜ SpansOf (tableOf (now t)) (next .point) (now spans) × (length (now spans) ≤ rangesListed (tableOf (now t)) (next .point)) × (next .at + pointNeed (tableOf (now t)) (next .point) ≤ length (now plan)) ⌝ }
+    requires { ⌜ SpansOf (tableOf (now t)) (next .point) (now spans) × (length (now spans) ≤ excludedListed (tableOf (now t)) (next .point)) × (next .at + pointNeed (tableOf (now t)) (next .point) ≤ length (now plan)) ⌝ }
     ensures { λ r. ⌜ PointPlan (tableOf (now (t .entry))) (next .point) (now (plan .exit)) (next .at) (r .spans) (r .pieces) (r .end) × (take (next .at) (now (plan .exit)) ≡ take (next .at) (now (plan .entry))) × (r .end ≤ next .at + pointNeed (tableOf (now (t .entry))) (next .point)) ⌝ }
 {
     let q = limits_of(t, next.point);

@@ -9,7 +9,7 @@ use lib.Dec.{ltb, eqb}
 use lib.ListN.{length, length-append}
 use borrow.Author.Tests.{ltb-true, ltb-false, eqb-true}
 use Rattle.model.specs.Lists.{sumOf, upFrom}
-use Rattle.model.specs.Table.{ValueBin, Table, excludes}
+use Rattle.model.specs.Table.{Kind, cover, ignore, illegal, default, ValueBin, Table, isCover, excludes}
 use Rattle.model.specs.Values.{lowest, inType}
 use Rattle.model.specs.Counters.{pointAt, excludedValue}
 use Rattle.model.specs.Format.{accepted, tableOf, u16}
@@ -23,7 +23,7 @@ use Rattle.model.proofs.RawValues.{length-bins}
 use Rattle.ranges.specs.Taken.{excludedAt}
 use Rattle.spans.specs.Spans.{heldBy, free, Settled, Least}
 use Rattle.spans.specs.Collected.{wordsFrom}
-use Rattle.spans.specs.Point.{SpansOf, freeValue, rangesListed}
+use Rattle.spans.specs.Point.{SpansOf, freeValue, rangesListed, coverListed, excludedListed}
 use Rattle.spans.proofs.LookLaws.{free-least}
 use Rattle.spans.proofs.Exact.{spans-exact, bins-are}
 
@@ -59,19 +59,33 @@ module _ (t : Table) (p : ℕ) (ws : List ℕ) (o : SpansOf t p ws) (v : ℕ) (h
 
 -- ---- how many
 
-excluded-few : (p : ℕ) (bs : List ValueBin) → length (rangesOf excludes p bs) ≤ sumOf (λ b. cond (eqb (b .point) p) (length (b .ranges)) 0) bs
+-- a value bin covers or excludes, never both
+few-apart : (p : ℕ) (bs : List ValueBin) → length (rangesOf isCover p bs) + length (rangesOf excludes p bs) ≤ sumOf (λ b. cond (eqb (b .point) p) (length (b .ranges)) 0) bs
 unfolding rangesOf sumOf
-excluded-few p [] = omega arith
-excluded-few p (b ∷ bs) = omega (arith, length-append (cond (eqb (b .point) p && excludes (b .kind)) (b .ranges) []) (rangesOf excludes p bs), go (eqb (b .point) p) (excludes (b .kind)), excluded-few p bs)
+few-apart p [] = omega arith
+few-apart p (b ∷ bs) =
+    omega (
+      arith,
+      length-append (cond (eqb (b .point) p && isCover (b .kind)) (b .ranges) []) (rangesOf isCover p bs),
+      length-append (cond (eqb (b .point) p && excludes (b .kind)) (b .ranges) []) (rangesOf excludes p bs),
+      go (eqb (b .point) p) (b .kind),
+      few-apart p bs,
+    )
   where
-    go : (c d : Bool) → length (cond (c && d) (b .ranges) []) ≤ cond c (length (b .ranges)) 0
-    go true true = omega arith
-    go true false = omega arith
-    go false d = omega arith
+    go : (c : Bool) (k : Kind) → length (cond (c && isCover k) (b .ranges) []) + length (cond (c && excludes k) (b .ranges) []) ≤ cond c (length (b .ranges)) 0
+    go true cover = omega arith
+    go true ignore = omega arith
+    go true illegal = omega arith
+    go true default = omega arith
+    go false k = omega arith
 
-pub excluded-listed : (s : List ℕ) → accepted s ≡ true → (p : ℕ) → length (excludedAt s (recordsPlace s 1) (recordsPlace s 2) (recordCount s 1) p) ≤ rangesListed (tableOf s) p
-unfolding rangesListed
-excluded-listed s ok p = omega (arith, ap (λ (bs : List ValueBin). length (rangesOf excludes p bs)) (bins-are s ok p), excluded-few p (tableOf s .valueBins))
+pub listed-apart : (t : Table) (p : ℕ) → coverListed t p + excludedListed t p ≤ rangesListed t p
+unfolding coverListed excludedListed rangesListed
+listed-apart t p = few-apart p (t .valueBins)
+
+pub excluded-listed : (s : List ℕ) → accepted s ≡ true → (p : ℕ) → length (excludedAt s (recordsPlace s 1) (recordsPlace s 2) (recordCount s 1) p) ≤ excludedListed (tableOf s) p
+unfolding excludedListed
+excluded-listed s ok p = omega (arith, ap (λ (bs : List ValueBin). length (rangesOf excludes p bs)) (bins-are s ok p))
 
 -- each bin has one point, so that over all points its ranges are counted once at most
 none-after : (n k i m : ℕ) → n < i → sumOf (λ q. cond (eqb n q) k 0) (upFrom i m) ≡ 0

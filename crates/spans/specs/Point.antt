@@ -7,9 +7,10 @@ use mathlib.Core.List.{List}
 use lib.Dec.{eqb}
 use lib.ListN.{length}
 use Rattle.model.specs.Lists.{sumOf}
-use Rattle.model.specs.Table.{Table}
+use Rattle.model.specs.Table.{Table, isCover, excludes}
 use Rattle.model.specs.Values.{lowest, inType}
 use Rattle.model.specs.Counters.{pointAt, excludedValue}
+use Rattle.model.specs.Ranges.{rangesOf}
 use Rattle.spans.specs.Spans.{heldBy, apart, free}
 
 -- the spans are ascending, disjoint and not adjacent, and hold of the type exactly the excluded values
@@ -24,3 +25,11 @@ freeValue ws low v = low + free ws (v - low)
 -- how many ranges the value bins of a point list
 unfoldable pub rangesListed : Table → ℕ → ℕ
 rangesListed t p = sumOf (λ b. cond (eqb (b .point) p) (length (b .ranges)) 0) (t .valueBins)
+
+-- of these, how many its cover bins list
+unfoldable pub coverListed : Table → ℕ → ℕ
+coverListed t p = length (rangesOf isCover p (t .valueBins))
+
+-- and how many its ignore and illegal bins list
+unfoldable pub excludedListed : Table → ℕ → ℕ
+excludedListed t p = length (rangesOf excludes p (t .valueBins))

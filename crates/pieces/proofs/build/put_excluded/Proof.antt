@@ -1,5 +1,7 @@
 use native.Mathlib.Omega.{arith}
+use Rattle.model.specs.Format.{tableOf}
 use Rattle.model.proofs.RawExact.{few-points}
+use Rattle.spans.proofs.Point.{listed-apart}
 use Rattle.pieces.proofs.BuildLaws.{collectable, settled-spans, spans-listed}
 use borrow.Author.Needs.{needs}
 use Rattle.pieces.proofs.build.put_excluded.Statement.{statement}
@@ -31,7 +33,7 @@ returns c =
     let b = c .before .before .before .before .before .before .before .limits-of in
     let r = c .before .before .before .before .spans-of .ensures in
     let few = spans-listed (a .t .now) (q .0 .0) (a .p) (a .own .bins) (a .own .ranges) (a .own .count) (q .1 .0) _ (b .ensures .0) in
-    (settled-spans (a .t .now) (q .0 .0) (a .p) (a .own .bins) (a .own .ranges) (a .own .count) (q .1 .0) _ (b .ensures .0) _ (r .1), omega (arith, few, r .0), omega (arith, few, r .0, q .0 .2, q .0 .3))
+    (settled-spans (a .t .now) (q .0 .0) (a .p) (a .own .bins) (a .own .ranges) (a .own .count) (q .1 .0) _ (b .ensures .0) _ (r .1), omega (arith, few, r .0), omega (arith, few, listed-apart (tableOf (a .t .now)) (a .p), r .0, q .0 .2, q .0 .3))
 
 pub put-excluded-spec : {M : Type 1} → statement M
 put-excluded-spec =
