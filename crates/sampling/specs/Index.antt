@@ -30,4 +30,4 @@ Labelled t kinds = take (counterTotal t) kinds ≡ kindsOf (counters t)
 
 -- how many words the plan of the table's values takes at most, by its ranges, its points and their counters, which are at least as many as the cover bins
 abbrev pub planRoom : Layout → Index → ℕ
-planRoom l x = 10 * l .«range_count» + 2 * (getD (x .starts) (x .points) 0 + x .points) + 7 * x .points
+planRoom l x = 9 * l .«range_count» + 2 * (getD (x .starts) (x .points) 0 + x .points) + 7 * x .points

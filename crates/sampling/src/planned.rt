@@ -73,7 +73,7 @@ fn largest_plan(has: &mut [u8], marks: &mut [u16], t: &[u8], x: Index)
     requires { ⌜ (256 * pointTotal (tableOf (now t)) ≤ length (now has)) × (markTotal (tableOf (now t)) ≤ length (now marks)) ⌝ }
     ensures { λ _. ⌜ Tells (hasValue (tableOf (now (t .entry)))) (tableOf (now (t .entry))) (now (has .exit)) × Marked (tableOf (now (t .entry))) (now (marks .exit)) ⌝ }
 {
-    let mut plan = [0u64; 18576];
+    let mut plan = [0u64; 17552];
     let mut lists = [0u16; 4160];
     plan_in(has, marks, &mut plan, &mut lists, t, x);
 }
@@ -87,7 +87,7 @@ pub fn plan_words(t: &[u8], x: Index) -> usize
     let starts = x.starts;
     let n = x.points;
     let counters = starts[n] as usize;
-    10 * l.range_count + 2 * (counters + n) + 7 * n
+    9 * l.range_count + 2 * (counters + n) + 7 * n
 }
 
 // Which cover bins still hold a value, 256 bytes for each point, and the marks of the products of all crosses: by the first class, from class on, that has room.
