@@ -45,7 +45,7 @@ module _ (s : List ℕ) (ok : accepted s ≡ true) where
   listed-few : length (illegalPlaces (tableOf s)) ≤ 704
   listed-few = omega (arith, illegal-many (tableOf s), few-illegals s ok)
 
-  pub largest-fits : Sized (tableOf s) 21456 17218
+  pub largest-fits : Sized (tableOf s) 20432 17218
   largest-fits = record { plan = omega (arith, plan-need s ok, rows-few s ok); lists = omega (arith, lists-most s ok, few-points s ok, listed-few) }
 
   module _ (x : Index) (own : Indexed (tableOf s) x) where

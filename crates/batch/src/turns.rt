@@ -112,7 +112,7 @@ const MEDIUM_COUNTERS: usize = 2048;
 
 const MEDIUM_HITS: usize = 2304;
 
-const LARGEST_PLAN: usize = 21456;
+const LARGEST_PLAN: usize = 20432;
 
 const LARGEST_LISTS: usize = 17218;
 
