@@ -18,7 +18,7 @@ use Rattle.model.specs.Raw.{rows, pointsAt}
 use Rattle.model.specs.Values.{fieldValue}
 use Rattle.model.proofs.Booleans.{false-true, or-false-right}
 use Rattle.model.proofs.RawLaws.{length-rows, getD-rows}
-use Rattle.words.specs.Verdicts.{verdict, verdictIn, unlessOk}
+use Rattle.words.specs.Verdicts.{verdictIn, unlessOk}
 use Rattle.words.specs.declared.verdicts.Verdict.{Verdict}
 use Rattle.model.proofs.Fields.{cover-kind}
 use Rattle.model.proofs.Lists.{none-left, one-left, length-row, getD-row}

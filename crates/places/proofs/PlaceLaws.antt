@@ -1,17 +1,17 @@
 -- Laws of places.
 -- Assumes nothing.
-use Prim.Native.Nat.{ℕ, zero, suc, _+_, _-_, _≤_, _<_}
+use Prim.Native.Nat.{ℕ, zero, suc, _+_, _≤_, _<_}
 use mathlib.Core.Path.{_≡_, refl, ap, ap₂, sym, _∙_}
 use mathlib.Core.Bool.{Bool, true, false, _&&_, _||_, cond}
 use mathlib.Core.List.{List, [], _∷_, _++_, map}
-use native.Mathlib.Nat.{add-zero, zero-add, add-assoc, add-suc}
+use native.Mathlib.Nat.{add-zero}
 use native.Mathlib.Omega.{arith}
 use lib.Dec.{leb, eqb}
 use borrow.Author.Tests.{leb-true, leb-false, le-leb, eq-eqb, ne-eqb, eqb-true}
 use native.Mathlib.Numerals.{add-one}
 use lib.Seq.{drop-cons, getD-take}
 use lib.ListN.{length, getD, take, drop, drop-of-length-le, length-take}
-use Rattle.model.specs.Lists.{oneOf, asBit}
+use Rattle.model.specs.Lists.{oneOf}
 use Rattle.model.proofs.Readers.{All}
 use Rattle.model.proofs.Booleans.{false-true, and-left, and-right}
 use Rattle.arrays.proofs.Written.{Written, written-room}

@@ -1,16 +1,16 @@
 -- How many cover bins a point has, by the kinds of its counters.
 -- Assumes nothing.
-use mathlib.Core.Path.{_≡_, refl, sym, ap, _∙_}
+use mathlib.Core.Path.{_≡_, refl, ap, _∙_}
 use mathlib.Core.Bool.{Bool, true, false, cond}
-use mathlib.Core.List.{List, [], _∷_, _++_, map}
+use mathlib.Core.List.{List, [], _∷_, map}
 use Prim.Native.Nat.{ℕ, zero, suc, _+_, _-_, _≤_, _<_}
 use native.Mathlib.Omega.{arith}
 use lib.Dec.{eqb}
-use lib.ListN.{length, getD, take, length-append, length-map}
+use lib.ListN.{length, getD, length-append, length-map}
 use lib.Seq.{take-all}
 use Rattle.model.specs.Lists.{upFrom, asBit}
 use Rattle.model.specs.Table.{Table}
-use Rattle.model.specs.Counters.{Counter, valueBin, pointCounters}
+use Rattle.model.specs.Counters.{Counter, pointCounters}
 use Rattle.model.specs.Register.{pointTotal}
 use Rattle.model.proofs.Lists.{from-step, from-end}
 use Rattle.arrays.specs.Flat.{covers, coverCounts, allPointCounters, pointStart}

@@ -22,7 +22,6 @@ use Rattle.model.proofs.Access.{records, section-count}
 use Rattle.model.proofs.AccessCrosses.{noToken}
 use Rattle.model.proofs.Sections.{acceptance, accepted-decodes}
 use Rattle.model.proofs.WellFormed.{GoodPoint, InPoints, well-formed}
-use Rattle.model.proofs.Exact.{type-bound}
 use Rattle.model.proofs.TableExact.{point-at}
 use Rattle.model.proofs.RawLaws.{length-rows}
 use Rattle.model.proofs.RawCrosses.{select-of, cross-of, crosses-raw, cross-bins-raw, crossBinsFrom, tokensFrom, bins-of}

@@ -9,8 +9,7 @@ use native.Mathlib.Omega.{arith}
 use lib.Dec.{leb, eqb}
 use lib.ListN.{length}
 use borrow.Author.Needs.{needs}
-use borrow.Author.Tests.{leb-true, eqb-true, le-leb, lt-leb}
-use Rattle.model.specs.Lists.{within}
+use borrow.Author.Tests.{leb-true, le-leb}
 use Rattle.model.specs.Format.{byte, u64, times, readRange, rangeTests, rangeRecord, rangeRules, valueTests, pointRecord}
 use Rattle.model.proofs.Booleans.{and-left, and-right, false-true}
 use Rattle.model.proofs.Lists.{none-left, one-left}

@@ -12,7 +12,7 @@ use Rattle.model.specs.Sampling.{valueWord, unknownWord}
 use Rattle.model.specs.Figures.{itemCount}
 use Rattle.model.specs.Format.{byte, numberOf, Outcome, rejected, decoded, decode}
 use Rattle.model.specs.Raw.{recordsPlace}
-use Rattle.model.specs.Register.{pointTotal, counterTotal, runTotal, illegalTotal, flagOf, samplesOf, Call, sample, askItem, registerTests, lastSample, callTests}
+use Rattle.model.specs.Register.{pointTotal, counterTotal, runTotal, illegalTotal, flagOf, samplesOf, Call, askItem, registerTests, lastSample, callTests}
 use Rattle.table.specs.declared.answer.Facts.{Facts}
 use Rattle.table.specs.Check.{factsOf}
 

@@ -1,6 +1,6 @@
 -- A fault of the model as two numbers, and what a reader tells when what it read is forgotten.
 -- Assumes nothing.
-use Prim.Native.Nat.{ℕ, _+_}
+use Prim.Native.Nat.{ℕ}
 use mathlib.Core.Bool.{Bool, cond}
 use mathlib.Core.List.{List, [], _∷_}
 use Rattle.model.specs.Format.{FaultClass, tooLong, cut, count, value, unused, field, disagreement, leftover, limits, Read, refused, got, Test}

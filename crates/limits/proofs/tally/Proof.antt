@@ -1,4 +1,3 @@
-use native.Mathlib.Omega.{arith}
 use Rattle.limits.proofs.EntryLaws.{entries-none}
 use Rattle.limits.proofs.Totals.{run-sum}
 use borrow.Author.Needs.{needs}

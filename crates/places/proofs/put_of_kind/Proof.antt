@@ -1,11 +1,10 @@
-use mathlib.Core.Path.{_≡_, refl, sym, ap, _∙_}
+use mathlib.Core.Path.{_≡_, ap, _∙_}
 use mathlib.Core.Bool.{Bool}
 use mathlib.Core.List.{List}
 use Rattle.arrays.specs.Put.{put}
 use Prim.Native.Nat.{ℕ, _+_, _-_, _≤_}
 use native.Mathlib.Omega.{arith}
 use lib.ListN.{length, take, drop, getD, length-take}
-use lib.Seq.{getD-take, length-take-le}
 use Rattle.arrays.proofs.Written.{Written, written-start, written-turn, written-end}
 use Rattle.places.specs.Places.{ofKind, placeIf, placesFrom}
 use Rattle.places.proofs.PlaceLaws.{places-start, places-end, set-turn, turn-room}

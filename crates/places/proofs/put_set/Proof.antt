@@ -1,11 +1,8 @@
-use mathlib.Core.Path.{_≡_, refl, sym, ap, _∙_}
-use mathlib.Core.List.{List}
-use Prim.Native.Nat.{ℕ, _+_, _-_, _≤_}
+use Prim.Native.Nat.{_+_, _-_, _≤_}
 use native.Mathlib.Omega.{arith}
-use lib.ListN.{length, take, drop, getD, length-take}
-use lib.Seq.{getD-take, length-take-le}
+use lib.ListN.{take, drop, length-take}
 use Rattle.arrays.proofs.Written.{Written, written-start, written-turn, written-end}
-use Rattle.places.specs.Places.{isSet, placeIf, placesFrom}
+use Rattle.places.specs.Places.{isSet, placesFrom}
 use Rattle.places.proofs.PlaceLaws.{places-start, places-end, set-turn, turn-room}
 use Rattle.places.proofs.put_set.Statement.{statement}
 use Rattle.places.proofs.put_set.Tie as tie

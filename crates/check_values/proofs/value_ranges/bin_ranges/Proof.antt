@@ -1,4 +1,3 @@
-use native.Mathlib.Omega.{arith}
 use Rattle.check_values.proofs.RangeLaws.{verdict-bin-at, spans-at}
 use borrow.Author.Needs.{needs}
 use Rattle.check_values.proofs.value_ranges.bin_ranges.Statement.{statement}

@@ -1,5 +1,5 @@
 use mathlib.Core.Path.{_≡_, refl, sym, ap, ap₂, _∙_}
-use mathlib.Core.List.{List, [], _∷_}
+use mathlib.Core.List.{[], _∷_}
 use Prim.Native.Nat.{ℕ, _+_, _-_, _≤_, _<_}
 use native.Mathlib.Omega.{arith}
 use lib.ListN.{length, getD, set}
@@ -7,7 +7,7 @@ use Rattle.model.specs.Counters.{pointCounters}
 use Rattle.model.specs.Format.{tableOf}
 use Rattle.model.specs.Register.{pointTotal}
 use Rattle.model.proofs.RawExact.{few-points}
-use Rattle.arrays.specs.Flat.{pointStart, covers, coverCounts}
+use Rattle.arrays.specs.Flat.{covers, coverCounts}
 use Rattle.arrays.proofs.PutLaws.{put-nil, put-cons}
 use Rattle.arrays.proofs.Written.{Written, written-start, written-turn, written-end}
 use Rattle.arrays.proofs.FlatLaws.{counts-length}

@@ -5,7 +5,6 @@ use lib.ListN.{length}
 use Rattle.products.specs.Shapes.{sizesOf}
 use Rattle.products.proofs.Gates.{Open, open-start, open-turn, open-end}
 use Rattle.products.proofs.Exact.{cross-placed, sizes-long, hits-are}
-use borrow.Author.Needs.{needs}
 use Rattle.products.proofs.hits.put_hits.Statement.{statement}
 use Rattle.products.proofs.hits.put_hits.Tie as tie
 

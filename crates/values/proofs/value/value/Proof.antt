@@ -1,9 +1,8 @@
-use mathlib.Core.Path.{_≡_, sym, _∙_}
-use mathlib.Core.Bool.{_&&_}
+use mathlib.Core.Path.{_≡_, sym}
 use mathlib.Core.Logic.{⊎-elim}
-use Prim.Native.Nat.{suc, _+_, _-_, _*_, _^_, _≤_, _<_}
+use Prim.Native.Nat.{suc, _-_, _*_, _^_, _<_}
 use native.Mathlib.Omega.{arith}
-use lib.IntN.{negsuc, _-ℤ_, _+ℤ_}
+use lib.IntN.{negsuc, _-ℤ_}
 use lib.Pow.{pow-mono}
 use mir.Syntax.{w64}
 use mir.Val.{toZ}
