@@ -1,21 +1,21 @@
 -- Bins of other points do not matter to a point.
 -- Assumes nothing.
-use mathlib.Core.Path.{_≡_, refl, sym, ap, ap₂, _∙_, subst}
+use mathlib.Core.Path.{_≡_, refl, sym, ap, ap₂, _∙_}
 use mathlib.Core.Bool.{Bool, true, false, not, _&&_, _||_, cond}
 use mathlib.Core.List.{List, [], _∷_, _++_}
-use Prim.Native.Nat.{ℕ, zero, suc, _+_, _-_, _*_, _≤_, _<_}
+use Prim.Native.Nat.{ℕ, zero, suc, _+_, _-_, _*_, _≤_}
 use native.Mathlib.Omega.{arith}
-use lib.Dec.{eqb, leb, ltb}
-use borrow.Author.Tests.{ltb-true, ltb-false, ne-eqb}
+use lib.Dec.{eqb, leb}
+use borrow.Author.Tests.{ne-eqb}
 use Rattle.model.specs.Table.{Kind, ValueBin, excludes}
 use Rattle.model.specs.Format.{byte, u16}
 use Rattle.model.specs.Ranges.{rangesOf}
-use Rattle.model.specs.Raw.{binAt, binsAt, recordsPlace, recordCount}
+use Rattle.model.specs.Raw.{binAt, binsAt, recordCount}
 use Rattle.layout.specs.Places.{layoutOf, binSectionsOf}
 use Rattle.layout.specs.declared.BinSections.{BinSections}
 use Rattle.ranges.specs.Taken.{excludedAt}
 use Rattle.values.specs.Points.{isOwn, someOwn, hasAutoAt}
-use Rattle.spans.specs.Part.{Other, OthersFrom, OthersTo, rangesPast, PartOf, OwnPart}
+use Rattle.spans.specs.Part.{Other, OthersFrom, OthersTo, rangesPast, PartOf}
 
 -- ---- found
 

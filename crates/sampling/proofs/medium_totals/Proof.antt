@@ -1,8 +1,8 @@
 use borrow.Author.Needs.{needs}
 use native.Mathlib.Omega.{arith}
 use Rattle.model.specs.Format.{tableOf}
-use Rattle.crosses.proofs.MarkLaws.{marks-counters, marks-few}
-use Rattle.sampling.proofs.Joins.{all-count, gate-room}
+use Rattle.crosses.proofs.MarkLaws.{marks-counters}
+use Rattle.sampling.proofs.Joins.{all-count}
 use Rattle.sampling.proofs.medium_totals.Statement.{statement}
 use Rattle.sampling.proofs.medium_totals.Tie as tie
 
