@@ -20,6 +20,7 @@ use Rattle.model.proofs.RunBits.{asBit-eqb}
 use Rattle.arrays.specs.Put.{put}
 use Rattle.arrays.specs.Flat.{hitFlags, productHits}
 use Rattle.arrays.proofs.PutLaws.{put-zero, front-put, put-put, put-same, drop-put, length-put, part-back}
+use Rattle.arrays.proofs.Written.{as-written}
 use Rattle.places.specs.Places.{isSet, placesFrom}
 use Rattle.places.proofs.PlaceLaws.{places-append, places-map, places-few, places-below}
 use Rattle.products.specs.Digits.{many}
@@ -29,14 +30,13 @@ use Rattle.products.proofs.Exact.{cross-placed, parts-are, sizes-parts, sizes-l
 use Rattle.crosses.specs.Flags.{headsAt, maskOf, ownMarks, labelOf, binFlags, productFlags, crossFlags}
 use Rattle.crosses.specs.Labels.{binLabels}
 use Rattle.crosses.proofs.FlagsExact.{flags-length, flags-exact, counters-length}
-use Rattle.crosshits.specs.Numbers.{turnNumbers, numbersFrom, PartsFit, Ready}
+use Rattle.crosshits.specs.Numbers.{numbersFrom, hitTotal, PartsFit, Ready}
 use Rattle.crosshits.specs.Listed.{listMarks, ownPlaces}
-use Rattle.crosshits.specs.Cross.{liveFlags, livePlaces, crossHits, Given}
-use Rattle.crosshits.specs.declared.numbers.Turn.{Turn}
+use Rattle.crosshits.specs.Cross.{liveFlags, livePlaces, crossNumbers, crossTotal, crossHits, Given}
 use Rattle.crosshits.specs.declared.cross.Cross.{Cross}
 use Rattle.crosshits.proofs.CountLaws.{labels-few}
 use Rattle.crosshits.proofs.ListedLaws.{own-few, flagsOf, marksAt, marks-listed, own-listed}
-use Rattle.crosshits.proofs.NumberLaws.{numbers-exact, all-fit, below-at}
+use Rattle.crosshits.proofs.NumberLaws.{numbers-total, numbers-exact, all-fit, below-at}
 
 -- a part that was lent, with something written to its start
 pub part-written : (at : ℕ) (xs l ys : List ℕ) → at + length xs ≤ length l → ys ≡ put 0 xs (take (length l - at) (drop at l)) → putMid at (length l - at) l ys ≡ put at xs l
@@ -168,25 +168,25 @@ module _ (s w f a : List ℕ) (x : Cross) (given : Given s w f a x) where
   abbrev heads : List CrossBinHead
   heads = headsAt s (x .place .bins) (byte s (cp + 12))
 
-  abbrev start : Turn
-  start = record { at = 0; first = 0; point = x .place .cross + 1; q = 0 }
-
   many-products : length (products T c) ≡ x .shape .total
   many-products = products-count T c ∙ sym (given .fits .products)
 
   -- the numbers of the hit products
-  abbrev pub hitNumbers : List ℕ
-  hitNumbers = placesFrom (all (coverHit (tableOf s) w)) 0 (products (tableOf s) (x .place .number))
+  abbrev hitNumbers : List ℕ
+  hitNumbers = placesFrom hit 0 (products T c)
 
-  pub numbers-are : turnNumbers s f (x .shape) (record { at = 0; first = 0; point = x .place .cross + 1; q = 0 }) ≡ hitNumbers
+  numbers-are : crossNumbers s f x ≡ hitNumbers
   unfolding products
   numbers-are =
       ap (numbersFrom s f (cp + 1) 0) (sizes-parts s (x .place) (given .stands) (x .shape) (given .fits))
       ∙ numbers-exact T w f (given .found) s cp (cross-placed s (x .place) (given .stands) .points)
       ∙ ap (λ (css : List (List CoverBin)). placesFrom hit 0 (tuples css)) (sym (parts-are s (x .place) (given .stands)))
 
-  pub numbers-few : length hitNumbers ≤ x .shape .total
-  numbers-few = omega (arith, places-few hit 0 (products T c), many-products)
+  pub numbers-many : crossTotal s f x ≡ length (crossNumbers s f x)
+  numbers-many = sym (numbers-total s f (sizesOf (x .shape)) (cp + 1) 0 ∙ ap (hitTotal s f (cp + 1)) (sizes-long s (x .place) (given .stands) (x .shape) (given .fits)))
+
+  pub numbers-few : length (crossNumbers s f x) ≤ x .shape .total
+  numbers-few = omega (arith, ap length numbers-are, places-few hit 0 (products T c), many-products)
 
   pub numbers-ready : Ready s f (x .shape) (record { at = 0; first = 0; point = x .place .cross + 1; q = 0 })
   numbers-ready =
@@ -201,20 +201,19 @@ module _ (s w f a : List ℕ) (x : Cross) (given : Given s w f a x) where
       }
 
   -- they stand at the list's start
-  pub numbers-listed : (n : ℕ) (l l′ : List ℕ) → n ≡ 0 + length (turnNumbers s f (x .shape) (record { at = 0; first = 0; point = x .place .cross + 1; q = 0 }))
-      → l′ ≡ put 0 (turnNumbers s f (x .shape) (record { at = 0; first = 0; point = x .place .cross + 1; q = 0 })) l → 1024 ≤ length l
-      → (take n l′ ≡ hitNumbers) × (n ≡ length hitNumbers) × (n ≤ length l′)
+  pub numbers-listed : (n : ℕ) (l l′ : List ℕ) → n ≡ 0 + length (crossNumbers s f x) → l′ ≡ put 0 (crossNumbers s f x) l → crossTotal s f x ≤ length l
+      → (take n l′ ≡ crossNumbers s f x) × (n ≡ length (crossNumbers s f x)) × (n ≤ length l′)
   numbers-listed n l l′ en el h =
-      let long : n ≡ length hitNumbers = omega (arith, en, ap length numbers-are) in
-      let same : l′ ≡ put 0 hitNumbers l = el ∙ ap (λ (v : List ℕ). put 0 v l) numbers-are in
-      let fit : length hitNumbers ≤ length l = omega (arith, numbers-few, given .fits .whole .small) in
-      (ap (take n) same ∙ front-put n hitNumbers l (sym long) (omega arith), long, omega (arith, ap length same, length-put 0 hitNumbers l (omega arith)))
+      let xs = crossNumbers s f x in
+      let long : n ≡ length xs = omega arith in
+      let fit : length xs ≤ length l = omega (arith, numbers-many) in
+      (ap (take n) el ∙ front-put n xs l (sym long) (omega arith), long, omega (arith, ap length el, length-put 0 xs l (omega arith)))
 
-  pub numbers-below : (n : ℕ) (l : List ℕ) → take n l ≡ hitNumbers → n ≡ length hitNumbers → Below n 1024 l
+  pub numbers-below : (n : ℕ) (l : List ℕ) → take n l ≡ crossNumbers s f x → n ≡ length (crossNumbers s f x) → Below n 1024 l
   unfolding Below
   numbers-below n l e en i h =
-      let b = below-at (0 + length (products T c)) hitNumbers (places-below hit 0 (products T c)) i (omega arith) in
-      let same = sym (getD-take n l i 0 h) ∙ ap (λ (v : List ℕ). getD v i 0) e in
+      let b = below-at (0 + length (products T c)) hitNumbers (places-below hit 0 (products T c)) i (omega (arith, ap length numbers-are)) in
+      let same = sym (getD-take n l i 0 h) ∙ ap (λ (v : List ℕ). getD v i 0) (e ∙ numbers-are) in
       omega (arith, b, same, many-products, given .fits .whole .small)
 
   -- ---- the flags
@@ -266,18 +265,27 @@ module _ (s w f a : List ℕ) (x : Cross) (given : Given s w f a x) where
       sym (own-listed hit a (x .start) n 0 (products T c)
       ∙ ap₂ (λ (k : ℕ) (v : List ℕ). placesFrom isSet k (productFlags true (flagsOf hit a (x .start) (products T c)) v)) (let z : n + 0 ≡ n = omega arith in z) marks-row)
 
-  pub live-exact : guardTrue w (guardFrom (byte s (x .place .cross + 5))) ≡ true → (m : Stretches) → livePlaces s w a hitNumbers x ≡ crossHits s w m x
+  live-exact : guardTrue w (guardFrom (byte s (x .place .cross + 5))) ≡ true → (m : Stretches) → livePlaces s w a hitNumbers x ≡ crossHits s w m x
   unfolding livePlaces liveFlags
   live-exact e m =
       sym (both-parts true e m
       ∙ ap₂ (λ (y z : ℕ). placesFrom isSet (x .first) (binFlags w false true y z heads) ++ placesFrom isSet (x .first + length (binFlags w false true y z heads)) (productFlags true hs ms)) (listed (maskOf heads)) (listed 0)
       ∙ ap (placesFrom isSet (x .first) (binFlags w false true (listMarks (maskOf heads) a (x .start) hitNumbers) (listMarks 0 a (x .start) hitNumbers) heads) ++_) (own-rest (x .first + length (binFlags w false true (listMarks (maskOf heads) a (x .start) hitNumbers) (listMarks 0 a (x .start) hitNumbers) heads))))
 
-  pub none-listed : guardTrue w (guardFrom (byte s (x .place .cross + 5))) ≡ true → (n : ℕ) → n ≡ length hitNumbers → n ≡ 0 → (m : Stretches) → crossHits s w m x ≡ []
+  -- of the listed numbers
+  pub live-written : guardTrue w (guardFrom (byte s (x .place .cross + 5))) ≡ true → (r : ℕ) (h h₀ : List ℕ)
+      → r ≡ x .at + length (livePlaces s w a (crossNumbers s f x) x) → h ≡ put (x .at) (livePlaces s w a (crossNumbers s f x) x) h₀
+      → (m : Stretches) → (r ≡ x .at + length (crossHits s w m x)) × (h ≡ put (x .at) (crossHits s w m x) h₀)
+  live-written e r h h₀ er eh m =
+      let xs = livePlaces s w a (crossNumbers s f x) x in
+      let same = ap (λ (v : List ℕ). livePlaces s w a v x) numbers-are ∙ live-exact e m in
+      as-written (x .at) r (length xs) xs (crossHits s w m x) h₀ h (sym same) refl er eh
+
+  pub none-listed : guardTrue w (guardFrom (byte s (x .place .cross + 5))) ≡ true → crossTotal s f x ≡ 0 → (m : Stretches) → crossHits s w m x ≡ []
   unfolding livePlaces liveFlags listMarks orAll ownPlaces
-  none-listed e n en z m =
+  none-listed e z m =
       sym (live-exact e m)
-      ∙ ap (λ (v : List ℕ). livePlaces s w a v x) (drop-of-length-le hitNumbers {i = 0} (omega arith))
+      ∙ ap (λ (v : List ℕ). livePlaces s w a v x) (drop-of-length-le hitNumbers {i = 0} (omega (arith, numbers-many, ap length numbers-are)))
       ∙ ap₂ _++_ (ap (placesFrom isSet (x .first)) (bins-idle w heads) ∙ bins-none w (x .first) 0 0 heads) refl
 
   -- how many counters there are

@@ -1,12 +1,12 @@
--- The numbers of a cross's hit products, part by part, and that they are the places of the hit ones among its products.
+-- The numbers of a cross's hit products, part by part, how many they are, and that they are the places of the hit ones among its products.
 -- Assumes nothing.
 use mathlib.Core.Path.{_≡_, refl, sym, ap, ap₂, _∙_, subst}
 use mathlib.Core.Bool.{Bool, true, false, _&&_, cond}
 use mathlib.Core.List.{List, [], _∷_, _++_, map}
-use Prim.Native.Nat.{ℕ, zero, suc, _+_, _-_, _*_, _≤_, _<_}
+use Prim.Native.Nat.{ℕ, zero, suc, _+_, _-_, _*_, _^_, _≤_, _<_}
 use native.Mathlib.Nat.{mul-le-mul}
 use native.Mathlib.Omega.{arith}
-use lib.ListN.{length, getD, drop, length-map, drop-of-length-le}
+use lib.ListN.{length, getD, drop, length-map, length-append, drop-of-length-le}
 use lib.Seq.{getD-take, getD-drop, ext-getD}
 use Rattle.model.specs.Lists.{upFrom, all, concatOf}
 use Rattle.model.specs.Table.{Table}
@@ -24,7 +24,7 @@ use Rattle.products.specs.Parts.{partsAt}
 use Rattle.products.specs.Shapes.{sizesOf}
 use Rattle.products.specs.declared.shapes.Shape.{Shape}
 use Rattle.products.proofs.Tuples.{tuples-many}
-use Rattle.crosshits.specs.Numbers.{foundPart, foundCount, foundParts, numbersFrom, turnNumbers, PartsFit, Ready}
+use Rattle.crosshits.specs.Numbers.{foundPart, foundCount, foundParts, numbersFrom, hitTotal, turnNumbers, PartsFit, Ready}
 use Rattle.crosshits.specs.declared.numbers.Turn.{Turn}
 
 -- ---- one turn of the code
@@ -101,6 +101,56 @@ module _ (s a : List ℕ) (h : Shape) (x : Turn) (long : length (sizesOf h) ≡ 
           room = omega (arith, part-room, ei);
           fit = fits .1;
         }
+
+-- ---- how many numbers there are
+
+concat-length : {A B : Type 0} (f : A → List B) (n : ℕ) (xs : List A) → ((x : A) → length (f x) ≡ n) → length (concatOf f xs) ≡ length xs * n
+unfolding concatOf
+concat-length f n [] e = omega arith
+concat-length f n (x ∷ xs) e = omega (arith, length-append (f x) (concatOf f xs), e x, concat-length f n xs e)
+
+module _ (s a : List ℕ) where
+  pub numbers-total : (ns : List ℕ) (at first : ℕ) → length (numbersFrom s a at first ns) ≡ hitTotal s a at (length ns)
+  unfolding numbersFrom foundParts hitTotal
+  numbers-total [] at first = refl
+  numbers-total (n ∷ ns) at first =
+      let p = byte s at in
+      let rest = hitTotal s a (at + 1) (length ns) in
+      concat-length (λ d. numbersFrom s a (at + 1) (first + d * many ns) ns) rest (foundParts a p) (λ d. numbers-total ns (at + 1) (first + d * many ns))
+      ∙ ap (_* rest) (length-row (foundPart a p) 0 (foundCount a p))
+
+  pub total-none : (at n : ℕ) → 1 ≡ hitTotal s a (at + n) (n - n)
+  unfolding hitTotal
+  total-none at n = ap (hitTotal s a (at + n)) (let z : 0 ≡ n - n = omega arith in z)
+
+  -- one position more, from the last back
+  pub total-turn : (at n i p k total : ℕ) → 0 < i → i ≤ n → p ≡ byte s (at + (i - 1)) → k ≡ getD a (257 * p) 0 → total ≡ hitTotal s a (at + i) (n - i) → k * total ≡ hitTotal s a (at + (i - 1)) (n - (i - 1))
+  unfolding hitTotal
+  total-turn at n i p k total pos h ep ek et =
+      let here : at + i ≡ at + (i - 1) + 1 = omega arith in
+      let left : n - (i - 1) ≡ suc (n - i) = omega arith in
+      ap₂ _*_ (ek ∙ ap (λ (q : ℕ). getD a (257 * q) 0) ep) (et ∙ ap (λ (b : ℕ). hitTotal s a b (n - i)) here) ∙ ap (hitTotal s a (at + (i - 1))) (sym left)
+
+  pub total-all : (at n i total : ℕ) → i ≡ 0 → total ≡ hitTotal s a (at + i) (n - i) → total ≡ hitTotal s a at n
+  total-all at n i total e et = et ∙ ap₂ (hitTotal s a) (let z : at + i ≡ at = omega arith in z) (let z : n - i ≡ n = omega arith in z)
+
+-- a product of at most four factors, each below 2 ^ 16
+pub factors-none : (n : ℕ) → 1 ≤ 65535 ^ (n - n)
+factors-none n = subst (λ (k : ℕ). 1 ≤ 65535 ^ k) (let z : 0 ≡ n - n = omega arith in z) (omega arith)
+
+factors-small : (k : ℕ) → k ≤ 4 → 65535 ^ k ≤ 65535 ^ 4
+factors-small zero h = omega arith
+factors-small (suc zero) h = omega arith
+factors-small (suc (suc zero)) h = omega arith
+factors-small (suc (suc (suc zero))) h = omega arith
+factors-small (suc (suc (suc (suc zero)))) h = omega arith
+factors-small (suc (suc (suc (suc (suc k))))) h = absurd (omega arith)
+
+pub factors-turn : (n i x total : ℕ) → n ≤ 4 → 0 < i → i ≤ n → x ≤ 65535 → total ≤ 65535 ^ (n - i) → (x * total ≤ 65535 ^ (n - (i - 1))) × (x * total ≤ 65535 ^ 4)
+factors-turn n i x total few pos h hx ht =
+    let left : n - (i - 1) ≡ suc (n - i) = omega arith in
+    let more : x * total ≤ 65535 ^ suc (n - i) = omega (arith, mul-le-mul hx ht) in
+    (subst (λ (k : ℕ). x * total ≤ 65535 ^ k) (sym left) more, omega (arith, more, factors-small (suc (n - i)) (omega arith)))
 
 -- ---- the products of tuples
 

@@ -9,11 +9,19 @@ use Rattle.model.specs.Counters.{crossCounters}
 use Rattle.model.specs.Sampling.{Stretches, hits}
 use Rattle.model.specs.Format.{byte, tableOf}
 use Rattle.places.specs.Places.{isSet, placesFrom, Found}
-use Rattle.products.specs.Shapes.{Fits, Stands}
+use Rattle.products.specs.Shapes.{sizesOf, Fits, Stands}
 use Rattle.products.specs.Marks.{crossMarks}
 use Rattle.crosses.specs.Flags.{headsAt, maskOf, binFlags}
+use Rattle.crosshits.specs.Numbers.{numbersFrom, hitTotal}
 use Rattle.crosshits.specs.Listed.{listMarks, ownPlaces}
 use Rattle.crosshits.specs.declared.cross.Cross.{Cross}
+
+-- The numbers of a cross's hit products, and how many they are. f has the hit cover bins of each point.
+abbrev pub crossNumbers : List ℕ → List ℕ → Cross → List ℕ
+crossNumbers s f x = numbersFrom s f (x .place .cross + 1) 0 (sizesOf (x .shape))
+
+abbrev pub crossTotal : List ℕ → List ℕ → Cross → ℕ
+crossTotal s f x = hitTotal s f (x .place .cross + 1) (x .shape .count)
 
 -- The cross's guard holds, and xs are the numbers of its hit products: the flags of its bins, and the places of bins and products.
 unfoldable pub liveFlags : List ℕ → List ℕ → List ℕ → List ℕ → Cross → List ℕ

@@ -1,6 +1,6 @@
 -- The numbers of a cross's hit products, from the lists of hit cover bins. For an accepted table they are the places of the hit ones among its products (proofs/NumberLaws.antt).
 -- Assumes nothing.
-use Prim.Native.Nat.{ℕ, _+_, _*_, _≤_, _<_}
+use Prim.Native.Nat.{ℕ, zero, suc, _+_, _*_, _≤_, _<_}
 use mathlib.Core.Path.{_≡_}
 use mathlib.Core.List.{List, [], _∷_, map}
 use lib.ListN.{length, getD, drop}
@@ -27,6 +27,11 @@ foundParts a p = map (foundPart a p) (upFrom 0 (foundCount a p))
 unfoldable pub numbersFrom : List ℕ → List ℕ → ℕ → ℕ → List ℕ → List ℕ
 numbersFrom s a at first [] = first ∷ []
 numbersFrom s a at first (n ∷ ns) = concatOf (λ d. numbersFrom s a (at + 1) (first + d * many ns) ns) (foundParts a (byte s at))
+
+-- how many they are: as many as n points from the byte `at` on have hit cover bins, multiplied
+unfoldable pub hitTotal : List ℕ → List ℕ → ℕ → ℕ → ℕ
+hitTotal s a at zero = 1
+hitTotal s a at (suc n) = foundCount a (byte s at) * hitTotal s a (at + 1) n
 
 abbrev pub turnNumbers : List ℕ → List ℕ → Shape → Turn → List ℕ
 turnNumbers s a h x = numbersFrom s a (x .point) (x .first) (drop (x .q) (sizesOf h))

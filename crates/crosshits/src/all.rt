@@ -19,10 +19,9 @@ ghost use Rattle.places.specs.Places.{placesFrom, Found};
 ghost use Rattle.crosses.specs.Marked.{Marked};
 
 // The counters of crosses that the sample hits. `found` has the hit cover bins of each point; `plan` has how many cover bins each point has, and from element 16 on the marks of all crosses.
-// `base` is the first counter of a cross; `list` is scratch. Answers how many they are.
+// `base` is the first counter of a cross. Answers how many they are.
 pub fn put_cross_hits(
     hits: &mut [u16],
-    list: &mut [u16],
     t: &[u8],
     sample: &[u32],
     found: &[u16],
@@ -30,7 +29,7 @@ pub fn put_cross_hits(
     base: usize,
 ) -> usize
     requires { ⌜ (accepted (now t) ≡ true) × Found (tableOf (now t)) (now sample) (now found) × (take (pointTotal (tableOf (now t))) (now plan) ≡ coverCounts (tableOf (now t))) × Marked (tableOf (now t)) (drop 16 (now plan)) ⌝ }
-    requires { ⌜ (base ≡ length (allPointCounters (tableOf (now t)))) × (length (allCrossCounters (tableOf (now t))) ≤ length (now hits)) × (1024 ≤ length (now list)) ⌝ }
+    requires { ⌜ (base ≡ length (allPointCounters (tableOf (now t)))) × (length (allCrossCounters (tableOf (now t))) ≤ length (now hits)) ⌝ }
     ensures { λ r. ⌜ ((m : Stretches) → (r ≡ length (placesFrom (hitBy (tableOf (now (t .entry))) (now (sample .entry)) m) base (allCrossCounters (tableOf (now (t .entry)))))) × (now (hits .exit) ≡ put 0 (placesFrom (hitBy (tableOf (now (t .entry))) (now (sample .entry)) m) base (allCrossCounters (tableOf (now (t .entry))))) (now (hits .entry)))) ⌝ }
 {
     let l = layout_of(t);
@@ -49,7 +48,7 @@ pub fn put_cross_hits(
             start: start,
             at: at,
         };
-        at = put_one(hits, list, t, sample, found, plan, x);
+        at = put_one(hits, t, sample, found, plan, x);
         first += counters_of(t, p, s);
         start += s.total;
         p = next_place(t, p);

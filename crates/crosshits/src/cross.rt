@@ -3,6 +3,7 @@ use crate::marks::Products;
 use crate::marks::marks_of;
 use crate::marks::put_own;
 use crate::numbers::Turn;
+use crate::numbers::hit_count;
 use crate::numbers::put_numbers;
 use crosses::bins::Ask;
 use crosses::bins::Raised;
@@ -21,7 +22,7 @@ ghost use Rattle.model.specs.Sampling.{Stretches};
 ghost use Rattle.model.specs.Format.{byte as byteAt, tableOf};
 ghost use Rattle.arrays.specs.Put.{put};
 ghost use Rattle.products.specs.Marks.{Below};
-ghost use Rattle.crosshits.specs.Cross.{Given, livePlaces, liveFlags, crossHits};
+ghost use Rattle.crosshits.specs.Cross.{Given, livePlaces, liveFlags, crossNumbers, crossTotal, crossHits};
 
 // A cross, its first counter, where its marks begin, and where the next place stands.
 pub struct Cross {
@@ -71,8 +72,8 @@ fn put_live(
     put_own(hits, list, n, plan, y)
 }
 
-// The counters of a cross that the sample hits; `list` is scratch. Answers where the next place stands.
-pub fn put_one(
+// The numbers of the hit products are listed first; `list` has room for them.
+fn put_listed(
     hits: &mut [u16],
     list: &mut [u16],
     t: &[u8],
@@ -81,7 +82,63 @@ pub fn put_one(
     plan: &[u16],
     x: Cross,
 ) -> usize
-    requires { ⌜ Given (now t) (now sample) (now found) (now plan) x × (x .at + length (crossCounters (tableOf (now t)) (x .place .number)) ≤ length (now hits)) × (1024 ≤ length (now list)) ⌝ }
+    requires { ⌜ Given (now t) (now sample) (now found) (now plan) x × (x .at + length (crossCounters (tableOf (now t)) (x .place .number)) ≤ length (now hits)) × (crossTotal (now t) (now found) x ≤ length (now list)) ⌝ }
+    ensures { λ r. ⌜ (r ≡ x .at + length (livePlaces (now (t .entry)) (now (sample .entry)) (now (plan .entry)) (crossNumbers (now (t .entry)) (now (found .entry)) x) x)) × (now (hits .exit) ≡ put (x .at) (livePlaces (now (t .entry)) (now (sample .entry)) (now (plan .entry)) (crossNumbers (now (t .entry)) (now (found .entry)) x) x) (now (hits .entry))) ⌝ }
+{
+    let p = x.place;
+    let s = x.shape;
+    let y = Turn {
+        at: 0,
+        first: 0,
+        point: p.cross + 1,
+        q: 0,
+    };
+    let n = put_numbers(list, t, found, s, y);
+    put_live(hits, list, t, sample, plan, n, x)
+}
+
+// ---- size classes
+
+fn put_few(
+    hits: &mut [u16],
+    t: &[u8],
+    sample: &[u32],
+    found: &[u16],
+    plan: &[u16],
+    x: Cross,
+) -> usize
+    requires { ⌜ Given (now t) (now sample) (now found) (now plan) x × (x .at + length (crossCounters (tableOf (now t)) (x .place .number)) ≤ length (now hits)) × (crossTotal (now t) (now found) x ≤ 64) ⌝ }
+    ensures { λ r. ⌜ (r ≡ x .at + length (livePlaces (now (t .entry)) (now (sample .entry)) (now (plan .entry)) (crossNumbers (now (t .entry)) (now (found .entry)) x) x)) × (now (hits .exit) ≡ put (x .at) (livePlaces (now (t .entry)) (now (sample .entry)) (now (plan .entry)) (crossNumbers (now (t .entry)) (now (found .entry)) x) x) (now (hits .entry))) ⌝ }
+{
+    let mut list = [0u16; 64];
+    put_listed(hits, &mut list, t, sample, found, plan, x)
+}
+
+fn put_many(
+    hits: &mut [u16],
+    t: &[u8],
+    sample: &[u32],
+    found: &[u16],
+    plan: &[u16],
+    x: Cross,
+) -> usize
+    requires { ⌜ Given (now t) (now sample) (now found) (now plan) x × (x .at + length (crossCounters (tableOf (now t)) (x .place .number)) ≤ length (now hits)) ⌝ }
+    ensures { λ r. ⌜ (r ≡ x .at + length (livePlaces (now (t .entry)) (now (sample .entry)) (now (plan .entry)) (crossNumbers (now (t .entry)) (now (found .entry)) x) x)) × (now (hits .exit) ≡ put (x .at) (livePlaces (now (t .entry)) (now (sample .entry)) (now (plan .entry)) (crossNumbers (now (t .entry)) (now (found .entry)) x) x) (now (hits .entry))) ⌝ }
+{
+    let mut list = [0u16; 1024];
+    put_listed(hits, &mut list, t, sample, found, plan, x)
+}
+
+// The counters of a cross that the sample hits. Answers where the next place stands.
+pub fn put_one(
+    hits: &mut [u16],
+    t: &[u8],
+    sample: &[u32],
+    found: &[u16],
+    plan: &[u16],
+    x: Cross,
+) -> usize
+    requires { ⌜ Given (now t) (now sample) (now found) (now plan) x × (x .at + length (crossCounters (tableOf (now t)) (x .place .number)) ≤ length (now hits)) ⌝ }
     ensures { λ r. ⌜ ((m : Stretches) → (r ≡ x .at + length (crossHits (now (t .entry)) (now (sample .entry)) m x)) × (now (hits .exit) ≡ put (x .at) (crossHits (now (t .entry)) (now (sample .entry)) m x) (now (hits .entry)))) ⌝ }
 {
     let p = x.place;
@@ -92,15 +149,12 @@ pub fn put_one(
         return at;
     }
     let s = x.shape;
-    let y = Turn {
-        at: 0,
-        first: 0,
-        point: cp + 1,
-        q: 0,
-    };
-    let n = put_numbers(list, t, found, s, y);
+    let n = hit_count(t, found, cp + 1, s.count);
     if n == 0 {
         return at;
     }
-    put_live(hits, list, t, sample, plan, n, x)
+    if n <= 64 {
+        return put_few(hits, t, sample, found, plan, x);
+    }
+    put_many(hits, t, sample, found, plan, x)
 }

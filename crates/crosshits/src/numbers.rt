@@ -7,7 +7,23 @@ ghost use mathlib.Core.Path.{_≡_};
 ghost use Prim.Native.Nat.{_+_, _≤_};
 ghost use lib.ListN.{length};
 ghost use Rattle.arrays.specs.Put.{put};
-ghost use Rattle.crosshits.specs.Numbers.{Ready, turnNumbers};
+ghost use Rattle.crosshits.specs.Numbers.{Ready, hitTotal, turnNumbers};
+
+// How many hit products n points have, whose numbers stand from byte `point` on.
+pub fn hit_count(t: &[u8], found: &[u16], point: usize, n: usize) -> usize
+    requires { ⌜ (point ≤ 65540) × (n ≤ 4) ⌝ }
+    ensures { λ r. ⌜ r ≡ hitTotal (now (t .entry)) (now (found .entry)) point n ⌝ }
+{
+    let mut total: usize = 1;
+    let mut i = n;
+    while 0 < i {
+        i -= 1;
+        let p = byte(t, point + i) as usize;
+        let k = element(found, 257 * p) as usize;
+        total = k * total;
+    }
+    total
+}
 
 // Position q of the cross, whose point's number stands at byte `point`. `first` is the number of the first product with the parts chosen so far, `at` the place of the next number.
 pub struct Turn {

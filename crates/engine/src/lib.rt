@@ -31,19 +31,10 @@ fn put_crossed(
     requires { ⌜ (base ≡ length (allPointCounters (tableOf (now t)))) × (length (allCrossCounters (tableOf (now t))) ≤ length (now hits)) ⌝ }
     ensures { λ r. ⌜ ((m : Stretches) → (r ≡ length (placesFrom (hitBy (tableOf (now (t .entry))) (now (sample .entry)) m) base (allCrossCounters (tableOf (now (t .entry)))))) × (now (hits .exit) ≡ put 0 (placesFrom (hitBy (tableOf (now (t .entry))) (now (sample .entry)) m) base (allCrossCounters (tableOf (now (t .entry))))) (now (hits .entry)))) ⌝ }
 {
-    let mut list = [0u16; 1024];
     let n = point_count(t);
     let at = 81 + 514 * n;
     let c = element(lists, at) as usize;
-    put_cross_hits(
-        hits,
-        &mut list,
-        t,
-        sample,
-        found,
-        &lists[at + 1 + c..],
-        base,
-    )
+    put_cross_hits(hits, t, sample, found, &lists[at + 1 + c..], base)
 }
 
 // Of the points and then of the crosses.

@@ -1,4 +1,3 @@
-use mathlib.Core.Path.{_≡_, _∙_}
 use native.Mathlib.Omega.{arith}
 use Rattle.model.specs.Format.{tableOf}
 use Rattle.layout.proofs.PlaceLaws.{points-total}
@@ -22,9 +21,6 @@ element-requires c κs = search needs
 cast-c : tie.Need-cast-c
 cast-c c = search needs
 
-slice-aggregate-put-cross-hits : tie.Need-slice-aggregate-put-cross-hits
-slice-aggregate-put-cross-hits c = search needs
-
 add-put-cross-hits : tie.Need-add-put-cross-hits
 add-put-cross-hits c = search needs
 
@@ -36,35 +32,35 @@ mul-put-cross-hits c = search needs
 
 sub-put-cross-hits : tie.Need-sub-put-cross-hits
 sub-put-cross-hits c =
-    let a = c .before .before .before .before .before .before .before .before .before .args in
-    let p = c .before .before .before .before .before .before .before .before .before .pre in
+    let a = c .before .before .before .before .before .before .before .before .args in
+    let p = c .before .before .before .before .before .before .before .before .pre in
     let s = a .t .now in
-    let lay = c .before .before .before .point-count in
+    let lay = c .before .before .point-count in
     let n = points-total s (p .0 .0) (lay .result) (lay .ensures .0) in
-    omega (arith, p .0 .4, counts-at (tableOf s) (a .lists .now) (p .0 .2) (p .0 .4) (lay .result) n (c .before .before .element .result) (c .before .before .element .ensures))
+    omega (arith, p .0 .4, counts-at (tableOf s) (a .lists .now) (p .0 .2) (p .0 .4) (lay .result) n (c .before .element .result) (c .before .element .ensures))
 
 part-put-cross-hits-start : tie.Need-part-put-cross-hits-start
 part-put-cross-hits-start c =
-    let a = c .before .before .before .before .before .before .before .before .before .args in
-    let p = c .before .before .before .before .before .before .before .before .before .pre in
+    let a = c .before .before .before .before .before .before .before .before .args in
+    let p = c .before .before .before .before .before .before .before .before .pre in
     let s = a .t .now in
-    let lay = c .before .before .before .point-count in
+    let lay = c .before .before .point-count in
     let n = points-total s (p .0 .0) (lay .result) (lay .ensures .0) in
-    omega (arith, p .0 .4, counts-at (tableOf s) (a .lists .now) (p .0 .2) (p .0 .4) (lay .result) n (c .before .before .element .result) (c .before .before .element .ensures))
+    omega (arith, p .0 .4, counts-at (tableOf s) (a .lists .now) (p .0 .2) (p .0 .4) (lay .result) n (c .before .element .result) (c .before .element .ensures))
 
 part-put-cross-hits-end : tie.Need-part-put-cross-hits-end
 part-put-cross-hits-end c = search needs
 
 put-cross-hits-requires : tie.Need-put-cross-hits-requires
 put-cross-hits-requires c κs =
-    let a = c .before .before .before .before .before .before .before .before .before .before .args in
-    let p = c .before .before .before .before .before .before .before .before .before .before .pre in
+    let a = c .before .before .before .before .before .before .before .before .before .args in
+    let p = c .before .before .before .before .before .before .before .before .before .pre in
     let s = a .t .now in
-    let lay = c .before .before .before .before .point-count in
+    let lay = c .before .before .before .point-count in
     let n = points-total s (p .0 .0) (lay .result) (lay .ensures .0) in
-    let q = c .before .before .before .element in
+    let q = c .before .before .element in
     let e = counts-at (tableOf s) (a .lists .now) (p .0 .2) (p .0 .4) (lay .result) n (q .result) (q .ensures) in
-    ((p .0 .0, p .0 .1, counts-part (tableOf s) (a .lists .now) (p .0 .2) (p .0 .4) (lay .result) n _ e, marks-part (tableOf s) (a .lists .now) (p .0 .2) (p .0 .4) (lay .result) n _ e (p .0 .3)), (p .1 .0, p .1 .1, omega arith))
+    ((p .0 .0, p .0 .1, counts-part (tableOf s) (a .lists .now) (p .0 .2) (p .0 .4) (lay .result) n _ e, marks-part (tableOf s) (a .lists .now) (p .0 .2) (p .0 .4) (lay .result) n _ e (p .0 .3)), (p .1 .0, p .1 .1))
 
 same-length : tie.Need-same-length
 same-length c = search needs
@@ -81,7 +77,6 @@ put-crossed-spec =
     add-at
     element-requires
     cast-c
-    slice-aggregate-put-cross-hits
     add-put-cross-hits
     add-put-cross-hits-2
     mul-put-cross-hits
