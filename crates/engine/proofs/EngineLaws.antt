@@ -25,7 +25,7 @@ use Rattle.points.proofs.ItemLaws.{start-read}
 use Rattle.crosses.specs.Marked.{Marked}
 use Rattle.hits.specs.Places.{allPlaces}
 use Rattle.hits.proofs.RowLaws.{tail-back}
-use Rattle.lists.specs.Lists.{placesAt, startsAt, illegalsAt, countsAt, marksAt, listsNeed}
+use Rattle.lists.specs.Lists.{placesAt, startsAt, illegalsAt, countsAt, marksAt, listsNeed, Planned}
 use Rattle.lists.specs.Stages.{Listed}
 use Rattle.lists.proofs.Fronts.{lent-all, lent-length}
 
@@ -41,6 +41,9 @@ hits-parts t s m =
     ∙ ap (λ (n : ℕ). placesFrom (hits t s m) 0 (allPointCounters t) ++ placesFrom (hits t s m) n (allCrossCounters t)) (zero-add (length (allPointCounters t)))
 
 -- ---- parts of the lists that are lent
+
+pub planned-listed : (t : Table) (plan l : List ℕ) → Planned t plan l → Listed t l
+planned-listed t plan l x = record { places = x .places; starts = x .starts; illegals = x .illegals; illegal = x .illegal; counts = x .counts }
 
 module _ (t : Table) (l : List ℕ) (ok : Listed t l) (room : listsNeed t ≤ length l) (n : ℕ) (en : n ≡ pointTotal t) where
   pub counts-at : (c : ℕ) → c ≡ getD l (81 + 514 * n) 0 → 81 + 514 * n + 1 + c ≡ countsAt t

@@ -78,6 +78,23 @@ fn find_small(
     put_hits(hits, t, sample, readings, lens, &found, lists)
 }
 
+fn find_medium(
+    hits: &mut [u16],
+    t: &[u8],
+    sample: &[u32],
+    readings: &[u64],
+    lens: &[u32],
+    plan: &[u64],
+    lists: &[u16],
+) -> usize
+    requires { ⌜ (accepted (now t) ≡ true) × Readings (tableOf (now t)) (now sample) (now readings) × (16 ≤ length (now readings)) × (64 ≤ length (now lens)) × (counterTotal (tableOf (now t)) + 256 ≤ length (now hits)) × Planned (tableOf (now t)) (now plan) (now lists) × (pointTotal (tableOf (now t)) ≤ 8) ⌝ }
+    ensures { λ r. ⌜ (r ≡ length (hitPlaces (tableOf (now (t .entry))) (now (sample .entry)) (runStretches (take (length (tableOf (now (t .entry)) .transitionBins)) (now (lens .entry)))))) × (now (hits .exit) ≡ put 0 (hitPlaces (tableOf (now (t .entry))) (now (sample .entry)) (runStretches (take (length (tableOf (now (t .entry)) .transitionBins)) (now (lens .entry))))) (now (hits .entry))) ⌝ }
+{
+    let mut found = [0u16; 2056];
+    find_all(&mut found, t, sample, readings, plan, lists);
+    put_hits(hits, t, sample, readings, lens, &found, lists)
+}
+
 fn find_largest(
     hits: &mut [u16],
     t: &[u8],
@@ -111,6 +128,9 @@ pub fn find_hits(
     let n = point_count(t);
     if n <= 4 {
         return find_small(hits, t, sample, readings, lens, plan, lists);
+    }
+    if n <= 8 {
+        return find_medium(hits, t, sample, readings, lens, plan, lists);
     }
     find_largest(hits, t, sample, readings, lens, plan, lists)
 }
