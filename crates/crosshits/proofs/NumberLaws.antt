@@ -4,7 +4,7 @@ use mathlib.Core.Path.{_≡_, refl, sym, ap, ap₂, _∙_, subst}
 use mathlib.Core.Bool.{Bool, true, false, _&&_, cond}
 use mathlib.Core.List.{List, [], _∷_, _++_, map}
 use Prim.Native.Nat.{ℕ, zero, suc, _+_, _-_, _*_, _^_, _≤_, _<_}
-use native.Mathlib.Nat.{mul-le-mul}
+use native.Mathlib.Nat.{mul-le-mul, pow-le-pow-right}
 use native.Mathlib.Omega.{arith}
 use lib.ListN.{length, getD, drop, length-map, length-append, drop-of-length-le}
 use lib.Seq.{getD-take, getD-drop, ext-getD}
@@ -138,19 +138,11 @@ module _ (s a : List ℕ) where
 pub factors-none : (n : ℕ) → 1 ≤ 65535 ^ (n - n)
 factors-none n = subst (λ (k : ℕ). 1 ≤ 65535 ^ k) (let z : 0 ≡ n - n = omega arith in z) (omega arith)
 
-factors-small : (k : ℕ) → k ≤ 4 → 65535 ^ k ≤ 65535 ^ 4
-factors-small zero h = omega arith
-factors-small (suc zero) h = omega arith
-factors-small (suc (suc zero)) h = omega arith
-factors-small (suc (suc (suc zero))) h = omega arith
-factors-small (suc (suc (suc (suc zero)))) h = omega arith
-factors-small (suc (suc (suc (suc (suc k))))) h = absurd (omega arith)
-
 pub factors-turn : (n i x total : ℕ) → n ≤ 4 → 0 < i → i ≤ n → x ≤ 65535 → total ≤ 65535 ^ (n - i) → (x * total ≤ 65535 ^ (n - (i - 1))) × (x * total ≤ 65535 ^ 4)
 factors-turn n i x total few pos h hx ht =
     let left : n - (i - 1) ≡ suc (n - i) = omega arith in
     let more : x * total ≤ 65535 ^ suc (n - i) = omega (arith, mul-le-mul hx ht) in
-    (subst (λ (k : ℕ). x * total ≤ 65535 ^ k) (sym left) more, omega (arith, more, factors-small (suc (n - i)) (omega arith)))
+    (subst (λ (k : ℕ). x * total ≤ 65535 ^ k) (sym left) more, omega (arith, more, pow-le-pow-right {n = 65535} (omega arith) {i = suc (n - i)} {j = 4} (omega arith)))
 
 -- ---- the products of tuples
 

@@ -25,7 +25,7 @@ use Rattle.spans.proofs.LookLaws.{free-least}
 use Rattle.parts.specs.Rows.{raiseAll}
 use Rattle.parts.proofs.FlagLaws.{raised-row}
 use Rattle.parts.proofs.RaiseLaws.{cleared}
-use Rattle.pieces.specs.Pieces.{Piece, highIn, partOf, pieceAt, piecesAt}
+use Rattle.pieces.specs.Pieces.{Piece, highIn, partAbove, pieceAt, piecesAt}
 use Rattle.pieces.specs.Met.{leftIn, patternMet, isMet, reachEnd, metParts, metOne, metFlags, nextFit}
 use Rattle.pieces.proofs.WordLaws.{below-part}
 
@@ -189,11 +189,11 @@ module _ (f : ℕ → ℕ) (lo hi : ℕ) (w : List ℕ) (at : ℕ) where
   module _ (l : List ℕ) (y : Bool) (e : y ≡ isMet f lo hi (pieceAt w at .range)) where
     pub met-off : y ≡ false → l ≡ metOne f lo hi (pieceAt w at) l
     unfolding metOne
-    met-off z = sym (ap (λ (b : Bool). cond b (set l (partOf second) 1) l) (sym e ∙ z))
+    met-off z = sym (ap (λ (b : Bool). cond b (set l (partAbove second) 1) l) (sym e ∙ z))
 
-    pub met-on : (k : ℕ) → y ≡ true → k ≡ partOf second → set l k 1 ≡ metOne f lo hi (pieceAt w at) l
+    pub met-on : (k : ℕ) → y ≡ true → k ≡ partAbove second → set l k 1 ≡ metOne f lo hi (pieceAt w at) l
     unfolding metOne
-    met-on k z q = ap (λ (b : ℕ). set l b 1) q ∙ sym (ap (λ (b : Bool). cond b (set l (partOf second) 1) l) (sym e ∙ z))
+    met-on k z q = ap (λ (b : ℕ). set l b 1) q ∙ sym (ap (λ (b : Bool). cond b (set l (partAbove second) 1) l) (sym e ∙ z))
 
 -- ---- the pieces that are left
 

@@ -17,12 +17,12 @@ use Rattle.arrays.proofs.Written.{Written, unwritten}
 use Rattle.parts.specs.Rows.{Row}
 use Rattle.parts.specs.Words.{planRowAt, planRowsAt}
 use Rattle.parts.proofs.Back.{row-same}
-use Rattle.pieces.specs.Pieces.{Piece, piece, packed, highIn, partOf, pieceBy}
+use Rattle.pieces.specs.Pieces.{Piece, piece, packed, highIn, partAbove, pieceBy}
 use Rattle.pieces.specs.Cuts.{leftOf, stepAt, cutLow, cutHigh, cutsFrom, piecesIn, rowPieces, allPieces, rangeWords, pieceWords, Bounded, Cuttable, rowOf, CutsFit}
 
 -- ---- the second word of a piece
 
-pub below-part : (w : ℕ) → w < 2 ^ 49 → w / 2 ^ 33 ≡ partOf w
+pub below-part : (w : ℕ) → w < 2 ^ 49 → w / 2 ^ 33 ≡ partAbove w
 below-part w h = omega arith
 
 module _ (a b k : ℕ) (small : b < 2 ^ 33) (few : k < 65536) where
@@ -30,7 +30,7 @@ module _ (a b k : ℕ) (small : b < 2 ^ 33) (few : k < 65536) where
   span-back =
       let high : highIn (packed b k) ≡ b = omega arith in
       let part : packed b k / 2 ^ 33 ≡ k = omega arith in
-      ap (λ (c : Bool). piece (cond c (span a (highIn (packed b k))) (pattern a (highIn (packed b k)))) (partOf (packed b k))) (lt-ltb (packed b k) (2 ^ 49) (omega arith))
+      ap (λ (c : Bool). piece (cond c (span a (highIn (packed b k))) (pattern a (highIn (packed b k)))) (partAbove (packed b k))) (lt-ltb (packed b k) (2 ^ 49) (omega arith))
       ∙ ap₂ (λ (x y : ℕ). piece (span a x) (y % 65536)) high part
       ∙ ap (piece (span a b)) (let z : k % 65536 ≡ k = omega arith in z)
 
@@ -38,7 +38,7 @@ module _ (a b k : ℕ) (small : b < 2 ^ 33) (few : k < 65536) where
   pattern-back =
       let high : highIn (packed b (k + 65536)) ≡ b = omega arith in
       let part : packed b (k + 65536) / 2 ^ 33 ≡ k + 65536 = omega arith in
-      ap (λ (c : Bool). piece (cond c (span a (highIn (packed b (k + 65536)))) (pattern a (highIn (packed b (k + 65536))))) (partOf (packed b (k + 65536)))) (le-ltb (packed b (k + 65536)) (2 ^ 49) (omega arith))
+      ap (λ (c : Bool). piece (cond c (span a (highIn (packed b (k + 65536)))) (pattern a (highIn (packed b (k + 65536))))) (partAbove (packed b (k + 65536)))) (le-ltb (packed b (k + 65536)) (2 ^ 49) (omega arith))
       ∙ ap₂ (λ (x y : ℕ). piece (pattern a x) (y % 65536)) high part
       ∙ ap (piece (pattern a b)) (let z : (k + 65536) % 65536 ≡ k = omega arith in z)
 

@@ -33,11 +33,11 @@ isSpan w = ltb w (2 ^ 49)
 abbrev pub highIn : ℕ → ℕ
 highIn w = w % 2 ^ 33
 
-abbrev pub partOf : ℕ → ℕ
-partOf w = w / 2 ^ 33 % 65536
+abbrev pub partAbove : ℕ → ℕ
+partAbove w = w / 2 ^ 33 % 65536
 
 abbrev pub pieceBy : ℕ → ℕ → Piece
-pieceBy a w = piece (cond (isSpan w) (span a (highIn w)) (pattern a (highIn w))) (partOf w)
+pieceBy a w = piece (cond (isSpan w) (span a (highIn w)) (pattern a (highIn w))) (partAbove w)
 
 abbrev pub pieceAt : List ℕ → ℕ → Piece
 pieceAt w at = pieceBy (getD w at 0) (getD w (at + 1) 0)

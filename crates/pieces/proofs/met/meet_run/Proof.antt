@@ -5,7 +5,7 @@ use native.Mathlib.Omega.{arith}
 use lib.ListN.{length, getD}
 use Rattle.spans.specs.Point.{freeValue}
 use Rattle.parts.proofs.RaiseLaws.{row-in}
-use Rattle.pieces.specs.Pieces.{partOf, pieceAt}
+use Rattle.pieces.specs.Pieces.{partAbove, pieceAt}
 use Rattle.pieces.specs.Met.{PartBelow}
 use Rattle.pieces.proofs.SearchLaws.{met-turn, met-none}
 use borrow.Author.Needs.{needs}
@@ -36,7 +36,7 @@ meet-pattern-requires c κs =
     let j = c .before .before .before .before .meet-spans .result in
     let e = c .before .before .before .before .meet-spans .ensures .0 in
     let less : j < a .n = omega (arith, c .before .if1 .left) in
-    let below : partOf (getD (a .words .now) (2 * j + 1) 0) < length (a .flags .now) = rw zero-add at (row-in (PartBelow (length (a .flags .now))) (pieceAt (a .words .now)) 2 0 (a .n) (q .1) j less) in
+    let below : partAbove (getD (a .words .now) (2 * j + 1) 0) < length (a .flags .now) = rw zero-add at (row-in (PartBelow (length (a .flags .now))) (pieceAt (a .words .now)) 2 0 (a .n) (q .1) j less) in
     ((omega (arith, q .0 .1), e .2 less, q .0 .4, q .0 .5, q .0 .6, q .0 .7), omega (arith, c .before .before .before .before .meet-spans .kept .0))
 
 add-result : tie.Need-add-result

@@ -5,7 +5,7 @@ use native.Mathlib.Omega.{arith}
 use lib.ListN.{length, getD}
 use Rattle.parts.specs.Rows.{raiseAll}
 use Rattle.parts.proofs.RaiseLaws.{row-in}
-use Rattle.pieces.specs.Pieces.{partOf, pieceAt, piecesAt}
+use Rattle.pieces.specs.Pieces.{partAbove, pieceAt, piecesAt}
 use Rattle.pieces.specs.Met.{metParts, reachEnd, PartBelow}
 use Rattle.pieces.proofs.SearchLaws.{span-one, met-turn, met-none}
 use Rattle.pieces.proofs.WordLaws.{below-part}
@@ -54,7 +54,7 @@ mark-requires c κs =
     let a = c .before .before .before .before .before .before .before .before .before .before .args in
     let q = c .before .before .before .before .before .before .before .before .before .before .pre in
     let l = c .before .before .before .before .before .before .before .loop in
-    let below : partOf (getD (a .words .now) (2 * l .j + 1) 0) < length (a .flags .now) = rw zero-add at (row-in (PartBelow (length (a .flags .now))) (pieceAt (a .words .now)) 2 0 (a .n) (q .2) (l .j) (omega arith)) in
+    let below : partAbove (getD (a .words .now) (2 * l .j + 1) 0) < length (a .flags .now) = rw zero-add at (row-in (PartBelow (length (a .flags .now))) (pieceAt (a .words .now)) 2 0 (a .n) (q .2) (l .j) (omega arith)) in
     omega (arith, below-part (getD (a .words .now) (2 * l .j + 1) 0) (omega (arith, c .before .before .before .before .if1 .left)), l .inv .2)
 
 add-j : tie.Need-add-j Inv-loop μ-loop
