@@ -6,7 +6,7 @@ use mathlib.Core.List.{List, [], _∷_}
 use Prim.Native.Nat.{ℕ, zero, suc, _+_, _*_, _-_, _≤_, _<_}
 use native.Mathlib.Nat.{sub-zero}
 use native.Mathlib.Omega.{arith}
-use lib.Dec.{ltb, eqb}
+use lib.Dec.{eqb}
 use lib.ListN.{length, getD, set, replicate, length-set}
 use borrow.Author.Tests.{ltb-true, eqb-true, eqb-false, ne-eqb}
 use Rattle.model.specs.Lists.{all, sumOf}
@@ -15,7 +15,7 @@ use Rattle.model.specs.Format.{byte, u16}
 use Rattle.model.specs.Raw.{rows, binAt, binsAt}
 use Rattle.model.proofs.Booleans.{and-left, and-right}
 use Rattle.model.proofs.Lists.{none-left, one-left}
-use Rattle.limits.specs.Bins.{more, added, Entries, here, spannedBy, countable, formAt, ownRanges, binPoint}
+use Rattle.limits.specs.Bins.{more, added, Entries, here, binBelow, binPoint}
 
 -- ---- one entry
 
@@ -100,16 +100,14 @@ pub rows-start : (g f : ℕ → ℕ) (size at n : ℕ) (l : List ℕ) → added 
 rows-start g f size at n l = rw sub-zero
 
 -- the bins that are left are bins of np points
-module _ (s : List ℕ) (np b r n i : ℕ) (inv : all (countable np) (binsAt s b r (n - i)) ≡ true) (h : i < n) where
-  pub bins-first : (byte s b < np) × (spannedBy (formAt s b) (ownRanges s b r) ≡ true)
+module _ (s : List ℕ) (np b r n i : ℕ) (inv : all (binBelow np) (binsAt s b r (n - i)) ≡ true) (h : i < n) where
+  pub bins-first : byte s b < np
   unfolding binsAt all
-  bins-first =
-      let e = and-left (countable np (binAt s b r)) _ (rw (one-left n i h) at inv) in
-      (ltb-true (byte s b) np (and-left (ltb (byte s b) np) _ e), and-right (ltb (byte s b) np) _ e)
+  bins-first = ltb-true (byte s b) np (and-left (binBelow np (binAt s b r)) _ (rw (one-left n i h) at inv))
 
-  pub bins-others : (r′ : ℕ) → r′ ≡ r + 17 * u16 s (b + 6) → all (countable np) (binsAt s (b + 8) r′ (n - (i + 1))) ≡ true
+  pub bins-others : (r′ : ℕ) → r′ ≡ r + 17 * u16 s (b + 6) → all (binBelow np) (binsAt s (b + 8) r′ (n - (i + 1))) ≡ true
   unfolding binsAt all
-  bins-others r′ e = ap (λ (r : ℕ). all (countable np) (binsAt s (b + 8) r (n - (i + 1)))) e ∙ and-right (countable np (binAt s b r)) _ (rw (one-left n i h) at inv)
+  bins-others r′ e = ap (λ (r : ℕ). all (binBelow np) (binsAt s (b + 8) r (n - (i + 1)))) e ∙ and-right (binBelow np (binAt s b r)) _ (rw (one-left n i h) at inv)
 
 -- ---- a sum over numbers that keeps one of them
 

@@ -1,18 +1,16 @@
 -- What bins of a kind add, by the byte that says it; and how many bins a form makes.
 -- Assumes nothing.
 use mathlib.Core.Path.{_≡_, refl, sym, ap}
-use mathlib.Core.Bool.{Bool, true, _||_, cond}
+use mathlib.Core.Bool.{Bool, _||_, cond}
 use mathlib.Core.List.{List}
 use Prim.Native.Nat.{ℕ, zero, suc, _≤_, _<_}
 use native.Mathlib.Omega.{arith}
 use lib.Dec.{eqb}
 use borrow.Author.Tests.{ne-eqb}
-use Rattle.model.specs.Lists.{all}
 use Rattle.model.specs.Table.{Kind, cover, ignore, illegal, default, Point, Range, perValue}
 use Rattle.model.specs.Format.{kindFrom, formFrom}
 use Rattle.model.specs.Ranges.{rangeCount, coversOf, countersOf, transitionsOf}
-use Rattle.ranges.specs.Types.{isSpan}
-use Rattle.limits.specs.Bins.{spannedBy, barsOf}
+use Rattle.limits.specs.Bins.{barsOf}
 
 -- ---- kinds
 
@@ -75,9 +73,6 @@ form-single p rs k m e = rw e
 
 pub form-per-value : (p : Point) (rs : List Range) (k m : ℕ) → k ≡ 1 → rangeCount p perValue rs ≡ rangeCount p (formFrom k m) rs
 form-per-value p rs k m e = rw e
-
-pub spanned-per-value : (rs : List Range) (k m : ℕ) → k ≡ 1 → spannedBy (formFrom k m) rs ≡ true → all isSpan rs ≡ true
-spanned-per-value rs k m e h = rw e at h
 
 pub form-fixed : (p : Point) (rs : List Range) (k m : ℕ) → (k ≡ 0 → ⊥) → (k ≡ 1 → ⊥) → m ≡ rangeCount p (formFrom k m) rs
 form-fixed p rs zero m h g = absurd (h refl)

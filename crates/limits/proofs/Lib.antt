@@ -6,7 +6,6 @@ pub mod EntryLaws
 pub mod RawSums
 pub mod ReadLaws
 pub mod KindLaws
-pub mod SpanLaws
 pub mod PointLaws
 pub mod CrossLaws
 pub mod Totals

@@ -9,47 +9,34 @@ use lib.Dec.{eqb}
 use lib.ListN.{length, getD}
 use borrow.Author.Tests.{ne-eqb, eqb-true, lt-ltb}
 use Rattle.model.specs.Lists.{all, sumOf}
-use Rattle.model.specs.Table.{Kind, cover, ignore, illegal, default, Point, Range, span, pattern, Form, single, perValue, fixed, ValueBin, TransitionBin, Table, isCover, isDefault, noPoint}
+use Rattle.model.specs.Table.{Kind, cover, ignore, illegal, default, Point, single, ValueBin, TransitionBin, Table, isCover, isDefault, noPoint}
 use Rattle.model.specs.Counters.{pointAt, hasAuto, autoCount}
 use Rattle.model.specs.Format.{byte, kindFrom, pointRecord}
 use Rattle.model.specs.Ranges.{rangeCount, coversOf, countersOf, transitionsOf, valueTotal, autoTotal, transitionTotal, countersAt, coversAt}
 use Rattle.model.specs.Raw.{rows, recordsPlace, recordCount, binsAt, transitionsAt, stepTotal, rangeTotal, rawTable}
 use Rattle.model.proofs.Readers.{All}
 use Rattle.model.proofs.RawLaws.{length-rows, getD-rows}
-use Rattle.model.proofs.WellFormed.{GoodPoint, GoodBin, WellFormed}
-use Rattle.model.proofs.Exact.{SpanOf, Divisible}
-use Rattle.model.proofs.TableExact.{point-at, divisible}
+use Rattle.model.proofs.WellFormed.{GoodPoint}
+use Rattle.model.proofs.TableExact.{point-at}
 use Rattle.model.proofs.Access.{points-access, bins-access}
 use Rattle.model.proofs.Measure.{sum-add}
 use Rattle.model.proofs.RawValues.{length-bins}
-use Rattle.ranges.specs.Types.{AllWide, isSpan}
+use Rattle.ranges.specs.Types.{AllWide}
 use Rattle.layout.specs.Places.{layoutOf, Small}
 use Rattle.layout.specs.declared.Layout.{Layout}
 use Rattle.limits.specs.Walks.{Readable}
 use Rattle.limits.specs.Tallies.{Counted}
-use Rattle.limits.specs.Bins.{added, Entries, here, spannedBy, countable, binPoint, binCovers, binSingles, barsOf, binBars, placePoint, placeSingles, placeBars, pointBelow, autosAt, countersIn}
+use Rattle.limits.specs.Bins.{added, Entries, here, binBelow, binPoint, binCovers, binSingles, barsOf, binBars, placePoint, placeSingles, placeBars, pointBelow, autosAt, countersIn}
 use Rattle.limits.proofs.RowLaws.{any-sum}
 use Rattle.limits.proofs.EntryLaws.{added-at, sum-only}
 use Rattle.limits.proofs.ReadLaws.{read-layout, read-well, bins-inside, bin-points, transition-points}
 
 -- ---- what a table that was read is known to be
 
-spans-are : (p : Point) (rs : List Range) → All (SpanOf p) rs → all isSpan rs ≡ true
+bins-below : (n : ℕ) (vs : List ValueBin) → All (λ v. v .point < n) vs → all (binBelow n) vs ≡ true
 unfolding all
-spans-are p [] h = refl
-spans-are p (span lo hi ∷ rs) h = spans-are p rs (h .1)
-spans-are p (pattern bits mask ∷ rs) h = absurd (h .0)
-
-form-spanned : (p : Point) (g : GoodPoint p) (f : Form) (rs : List Range) → Divisible p g f rs → spannedBy f rs ≡ true
-form-spanned p g single rs h = refl
-form-spanned p g perValue rs h = spans-are p rs h
-form-spanned p g (fixed n) rs h = refl
-
-bins-countable : (t : Table) (w : WellFormed t) (vs : List ValueBin) → All (GoodBin (t .points)) vs → All (λ v. v .point < length (t .points)) vs → all (countable (length (t .points))) vs ≡ true
-unfolding all
-bins-countable t w [] h k = refl
-bins-countable t w (v ∷ vs) h k =
-    ap₂ _&&_ (ap₂ _&&_ (lt-ltb (v .point) (length (t .points)) (k .0)) (form-spanned (pointAt t (v .point)) (point-at t w (v .point)) (v .form) (v .ranges) (divisible t w v (h .0)))) (bins-countable t w vs (h .1) (k .1))
+bins-below n [] h = refl
+bins-below n (v ∷ vs) h = ap₂ _&&_ (lt-ltb (v .point) n (h .0)) (bins-below n vs (h .1))
 
 module _ (s : List ℕ) where
   pub points-length : length (rawTable s .points) ≡ recordCount s 0
@@ -77,11 +64,10 @@ module _ (s : List ℕ) where
         number : length (rawTable s .valueBins) ≡ recordCount s 1
         number = unfold rawTable in (length-bins s (recordsPlace s 1) (recordsPlace s 2) (recordCount s 1))
 
-    pub all-countable : all (countable (recordCount s 0)) (binsAt s (recordsPlace s 1) (recordsPlace s 2) (recordCount s 1)) ≡ true
+    pub all-bins-below : all (binBelow (recordCount s 0)) (binsAt s (recordsPlace s 1) (recordsPlace s 2) (recordCount s 1)) ≡ true
     unfolding rawTable
-    all-countable =
-        ap (λ (n : ℕ). all (countable n) (rawTable s .valueBins)) (sym points-length)
-        ∙ bins-countable (rawTable s) (read-well s known) (rawTable s .valueBins) (read-well s known .bins) (bin-points s known)
+    all-bins-below =
+        ap (λ (n : ℕ). all (binBelow n) (rawTable s .valueBins)) (sym points-length) ∙ bins-below (length (rawTable s .points)) (rawTable s .valueBins) (bin-points s known)
 
     pub all-below : all (pointBelow s 16) (rows here 4 (recordsPlace s 3) (recordCount s 3)) ≡ true
     unfolding rawTable
@@ -248,9 +234,9 @@ module _ (s : List ℕ) (l : Layout) (laid : l ≡ layoutOf s) (small : Small l)
       let few = subst (λ (l : Layout). (l .«point_count» ≤ 16) × (l .«bin_count» ≤ 512) × AllWide s (l .points) (l .«point_count») × (l .bins + 8 * l .«bin_count» ≤ length s)) (sym laid) (few-points s known, few-bins s known, points-wide s known, bins-inside s known) in
       (omega (arith, small .points), few .0, omega (arith, small .bins), omega (arith, small .ranges), few .1, few .2, few .3)
 
-  pub bins-there : all (countable (l .«point_count»)) (binsAt s (l .bins) (l .ranges) (l .«bin_count»)) ≡ true
+  pub bins-there : all (binBelow (l .«point_count»)) (binsAt s (l .bins) (l .ranges) (l .«bin_count»)) ≡ true
   unfolding layoutOf
-  bins-there = subst (λ (l : Layout). all (countable (l .«point_count»)) (binsAt s (l .bins) (l .ranges) (l .«bin_count»)) ≡ true) (sym laid) (all-countable s known)
+  bins-there = subst (λ (l : Layout). all (binBelow (l .«point_count»)) (binsAt s (l .bins) (l .ranges) (l .«bin_count»)) ≡ true) (sym laid) (all-bins-below s known)
 
   pub transitions-ready : (l .transitions ≤ 16777216) × (l .«transition_count» ≤ 65535) × (all (pointBelow s 16) (rows here 4 (l .transitions) (l .«transition_count»)) ≡ true)
   unfolding layoutOf

@@ -2,17 +2,16 @@
 -- Assumes nothing.
 use Prim.Native.Nat.{ℕ, _+_, _*_, _≤_, min}
 use mathlib.Core.Path.{_≡_}
-use mathlib.Core.Bool.{Bool, true, _&&_, cond}
+use mathlib.Core.Bool.{Bool, cond}
 use mathlib.Core.List.{List, [], _∷_, map}
 use lib.Dec.{leb, ltb, eqb}
 use lib.ListN.{length, getD, set}
-use Rattle.model.specs.Lists.{upFrom, all}
-use Rattle.model.specs.Table.{Kind, cover, ignore, illegal, default, Range, Form, single, perValue, fixed, ValueBin}
+use Rattle.model.specs.Lists.{upFrom}
+use Rattle.model.specs.Table.{Kind, cover, ignore, illegal, default, Range, Form, ValueBin}
 use Rattle.model.specs.Counters.{autoCount, productOf}
 use Rattle.model.specs.Format.{byte, u16, kindFrom, formFrom, pointRecord}
 use Rattle.model.specs.Ranges.{rangeCount, countersOf, coversOf, transitionsOf}
 use Rattle.model.specs.Raw.{rangesAt}
-use Rattle.ranges.specs.Types.{isSpan}
 
 -- ---- entries: a number for each point
 
@@ -39,15 +38,9 @@ here at = at
 
 -- ---- value bins
 
--- where there is a bin per value, the ranges are spans
-abbrev pub spannedBy : Form → List Range → Bool
-spannedBy single rs = true
-spannedBy perValue rs = all isSpan rs
-spannedBy (fixed n) rs = true
-
--- a bin of one of n points, whose ranges are spans where there is a bin per value
-abbrev pub countable : ℕ → ValueBin → Bool
-countable n v = ltb (v .point) n && spannedBy (v .form) (v .ranges)
+-- a bin of one of n points
+abbrev pub binBelow : ℕ → ValueBin → Bool
+binBelow n v = ltb (v .point) n
 
 -- the form and the ranges of the bin at b, whose ranges stand from r on
 abbrev pub formAt : List ℕ → ℕ → Form

@@ -1,4 +1,3 @@
 pub mod Walks
 pub mod Bins
-pub mod Spans
 pub mod Tallies

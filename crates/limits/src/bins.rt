@@ -1,8 +1,10 @@
 // What the value bins add to the entries of their points, in one pass.
 use crate::entries::add;
 use crate::sums::one_if;
-use crate::values::per_value;
 use layout::Layout;
+use ranges::counts::value_count;
+use ranges::lowest;
+use words::bytes::byte;
 use words::bytes::inside;
 use words::bytes::whole2;
 ghost use mathlib.Core.Path.{_≡_};
@@ -11,16 +13,26 @@ ghost use Prim.Native.Nat.{_+_, _*_, _≤_, _<_};
 ghost use lib.ListN.{length};
 ghost use Rattle.model.specs.Lists.{all};
 ghost use Rattle.model.specs.Format.{byte, kindFrom, pointRecord};
-ghost use Rattle.model.specs.Ranges.{rangeCount, coversOf, countersOf};
-ghost use Rattle.model.specs.Raw.{binAt, binsAt};
+ghost use Rattle.model.specs.Ranges.{firstValues, rangeCount, coversOf, countersOf};
+ghost use Rattle.model.specs.Raw.{rangesAt, binAt, binsAt};
 ghost use Rattle.ranges.specs.Types.{Wide, AllWide};
 ghost use Rattle.limits.specs.Walks.{valueIllegals};
-ghost use Rattle.limits.specs.Bins.{spannedBy, formAt, ownRanges, more, added, Entries, countable, binPoint, binCovers, binSingles, barsOf, binBars};
+ghost use Rattle.limits.specs.Bins.{formAt, ownRanges, more, added, Entries, binBelow, binPoint, binCovers, binSingles, barsOf, binBars};
+
+// How many values n ranges from start on have, of the point whose record is at point; 257 if there are more.
+fn per_value(t: &[u8], point: usize, start: usize, n: usize) -> usize
+    requires { ⌜ (point ≤ 1000000000) × (start ≤ 1000000000) × (n ≤ 65535) × Wide (now t) point ⌝ }
+    ensures { λ r. ⌜ (r ≡ length (firstValues (pointRecord (now (t .entry)) point) (rangesAt (now (t .entry)) start n))) × (r ≤ 257) ⌝ }
+{
+    let width = byte(t, point);
+    let signed = byte(t, point + 1);
+    let low = lowest(width, signed == 1);
+    value_count(t, start, n, low)
+}
 
 // How many bins the value bin at b stands for, whose ranges are from r on; 257 if a bin per value makes more.
 fn bins_of(t: &[u8], point: usize, b: usize, r: usize) -> usize
     requires { ⌜ (point ≤ 1000000000) × (b ≤ 1000000000) × (r ≤ 1000000000) × Wide (now t) point × (b + 8 ≤ length (now t)) ⌝ }
-    requires { ⌜ spannedBy (formAt (now t) b) (ownRanges (now t) b r) ≡ true ⌝ }
     ensures { λ n. ⌜ (n ≡ rangeCount (pointRecord (now (t .entry)) point) (formAt (now (t .entry)) b) (ownRanges (now (t .entry)) b r)) × (n ≤ 65535) ⌝ }
 {
     let form = inside(t, b + 2);
@@ -38,7 +50,6 @@ fn bins_of(t: &[u8], point: usize, b: usize, r: usize) -> usize
 // The cover bins of a bin of some kind.
 fn covers_of(t: &[u8], kind: u8, point: usize, b: usize, r: usize) -> u32
     requires { ⌜ (point ≤ 1000000000) × (b ≤ 1000000000) × (r ≤ 1000000000) × Wide (now t) point × (b + 8 ≤ length (now t)) ⌝ }
-    requires { ⌜ spannedBy (formAt (now t) b) (ownRanges (now t) b r) ≡ true ⌝ }
     ensures { λ n. ⌜ (n ≡ coversOf (kindFrom kind) (rangeCount (pointRecord (now (t .entry)) point) (formAt (now (t .entry)) b) (ownRanges (now (t .entry)) b r))) × (n ≤ 65535) ⌝ }
 {
     if kind != 0 {
@@ -72,7 +83,6 @@ fn add_bin(
     r: usize,
 )
     requires { ⌜ (points ≤ 16777216) × (b ≤ 1000000000) × (r ≤ 1000000000) × (byte (now t) b < 16) × Wide (now t) (points + 11 * byte (now t) b) × (b + 8 ≤ length (now t)) ⌝ }
-    requires { ⌜ spannedBy (formAt (now t) b) (ownRanges (now t) b r) ≡ true ⌝ }
     requires { ⌜ Entries 50000000 (now covers) × Entries 1000 (now singles) × Entries 1000 (now bars) ⌝ }
     ensures { λ _. ⌜ now (covers .exit) ≡ more (byte (now (t .entry)) b) (binCovers (now (t .entry)) points (binAt (now (t .entry)) b r)) (now (covers .entry)) ⌝ }
     ensures { λ _. ⌜ now (singles .exit) ≡ more (byte (now (t .entry)) b) (binSingles (binAt (now (t .entry)) b r)) (now (singles .entry)) ⌝ }
@@ -96,7 +106,7 @@ pub fn add_bins(
     l: Layout,
 ) -> usize
     requires { ⌜ (l .points ≤ 16777216) × (l .«point_count» ≤ 16) × (l .bins ≤ 16777216) × (l .ranges ≤ 16777216) × (l .«bin_count» ≤ 512) × AllWide (now t) (l .points) (l .«point_count») × (l .bins + 8 * l .«bin_count» ≤ length (now t)) ⌝ }
-    requires { ⌜ all (countable (l .«point_count»)) (binsAt (now t) (l .bins) (l .ranges) (l .«bin_count»)) ≡ true ⌝ }
+    requires { ⌜ all (binBelow (l .«point_count»)) (binsAt (now t) (l .bins) (l .ranges) (l .«bin_count»)) ≡ true ⌝ }
     requires { ⌜ Entries 0 (now covers) × Entries 0 (now singles) × Entries 0 (now bars) ⌝ }
     ensures { λ _. ⌜ now (covers .exit) ≡ added binPoint (binCovers (now (t .entry)) (l .points)) (binsAt (now (t .entry)) (l .bins) (l .ranges) (l .«bin_count»)) (now (covers .entry)) ⌝ }
     ensures { λ _. ⌜ now (singles .exit) ≡ added binPoint binSingles (binsAt (now (t .entry)) (l .bins) (l .ranges) (l .«bin_count»)) (now (singles .entry)) ⌝ }

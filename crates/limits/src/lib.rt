@@ -7,7 +7,6 @@ mod kinds;
 mod points;
 mod sums;
 mod transitions;
-mod values;
 
 use crate::answer::Tally;
 use crate::crosses::product_sum;

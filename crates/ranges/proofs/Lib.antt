@@ -5,3 +5,4 @@ pub mod NextLaws
 pub mod MemberLaws
 pub mod TakenLaws
 pub mod SizeLaws
+pub mod CountLaws

@@ -9,14 +9,14 @@ use native.Mathlib.Omega.{arith}
 use lib.Dec.{leb, eqb}
 use lib.ListN.{length}
 use borrow.Author.Needs.{needs}
-use borrow.Author.Tests.{leb-true, le-leb}
+use borrow.Author.Tests.{leb-true}
 use Rattle.model.specs.Format.{byte, u64, times, readRange, rangeTests, rangeRecord, rangeRules, valueTests, pointRecord}
 use Rattle.model.proofs.Booleans.{and-left, and-right, false-true}
 use Rattle.model.proofs.Lists.{none-left, one-left}
 use Rattle.words.specs.Verdicts.{verdict, verdictOf, verdictIn}
 use Rattle.words.specs.declared.verdicts.Verdict.{Verdict}
 use Rattle.words.proofs.Laws.{record-whole, verdict-cons-on}
-use Rattle.ranges.specs.Types.{typed, valueAt, powerOf, lowestOf, limitsOf, spanIn, spansIn, soundSpans}
+use Rattle.ranges.specs.Types.{typed, valueAt, powerOf, lowestOf, limitsOf, endTests, allPass, spanIn, spansIn, soundSpans}
 use Rattle.ranges.specs.declared.Limits.{Limits}
 use Rattle.ranges.proofs.RangeLaws.{range-typed}
 
@@ -49,27 +49,17 @@ pub ruleset spanss = (needs, spans-start, spans-done, spans-stop, spans-on)
 
 module _ (s : List ℕ) (width : ℕ) (signed patterns : Bool) where
   -- the tests of one
-  span-passes : (a b kind at : ℕ) (rest : Verdict)
-      → (((eqb kind 0 && leb (limitsOf width signed .low) (valueAt a)) && leb (valueAt a) (valueAt b)) && leb (valueAt b) (limitsOf width signed .high)) ≡ true
-      → rest ≡ verdictIn (rangeRules (typed width signed) patterns kind a b at) rest
-  unfolding rangeRules valueTests verdictIn limitsOf lowestOf powerOf valueAt
+  span-passes : (a b kind at : ℕ) (rest : Verdict) → (eqb kind 0 && allPass (endTests (limitsOf width signed) a b)) ≡ true → rest ≡ verdictIn (rangeRules (typed width signed) patterns kind a b at) rest
+  unfolding rangeRules valueTests verdictIn endTests limitsOf lowestOf powerOf valueAt
   span-passes a b kind at rest h =
-      let low = limitsOf width signed .low in
-      let high = limitsOf width signed .high in
-      let x = valueAt a in
-      let y = valueAt b in
-      let three = and-left ((eqb kind 0 && leb low x) && leb x y) (leb y high) h in
-      let two = and-left (eqb kind 0 && leb low x) (leb x y) three in
-      let k : eqb kind 0 ≡ true = and-left (eqb kind 0) (leb low x) two in
-      let lx : leb low x ≡ true = and-right (eqb kind 0) (leb low x) two in
-      let xy : leb x y ≡ true = and-right (eqb kind 0 && leb low x) (leb x y) three in
-      let yh : leb y high ≡ true = and-right ((eqb kind 0 && leb low x) && leb x y) (leb y high) h in
-      let i = leb-true low x lx in
-      let j = leb-true x y xy in
-      let m = leb-true y high yh in
-      let ly : leb low y ≡ true = le-leb low y (omega arith) in
-      let xh : leb x high ≡ true = le-leb x high (omega arith) in
-      rw (k, lx, xh, ly, yh, xy)
+      let e = endTests (limitsOf width signed) a b in
+      let both = and-right (eqb kind 0) (allPass e) h in
+      let two = and-left (e .first && e .last) (e .ordered) both in
+      let k : eqb kind 0 ≡ true = and-left (eqb kind 0) (allPass e) h in
+      let first : e .first ≡ true = and-left (e .first) (e .last) two in
+      let last : e .last ≡ true = and-right (e .first) (e .last) two in
+      let ordered : e .ordered ≡ true = and-right (e .first && e .last) (e .ordered) both in
+      rw (k, first, last, ordered)
 
   span-read : (at : ℕ) → at + 17 ≤ length s → spanIn s (limitsOf width signed) at ≡ true → verdict 0 (at + 17) ≡ verdictOf (readRange s (typed width signed) patterns at)
   unfolding readRange spanIn

@@ -1,2 +1,3 @@
 pub mod Types
 pub mod Taken
+pub mod Counts

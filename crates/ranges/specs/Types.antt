@@ -1,14 +1,16 @@
--- A point's type by its width and its sign, as inner code passes it on; points whose widths are known to be widths; ranges that are spans.
+-- A point's type by its width and its sign, as inner code passes it on; points whose widths are known to be widths; spans that pass their tests.
 -- Assumes nothing.
 use Prim.Native.Nat.{ℕ, zero, suc, _+_, _-_, _*_, _^_, _<_, _≤_}
-use mathlib.Core.Bool.{Bool, true, false, _&&_, cond}
+use mathlib.Core.Bool.{Bool, true, _&&_, cond}
 use mathlib.Core.List.{List}
 use lib.Dec.{leb, eqb}
 use lib.ListN.{length}
 use mathlib.Core.Option.{none}
-use Rattle.model.specs.Table.{Point, Range, span, pattern}
+use Rattle.model.specs.Lists.{within}
+use Rattle.model.specs.Table.{Point}
 use Rattle.model.specs.Values.{fieldValue}
 use Rattle.model.specs.Format.{byte, u64}
+use Rattle.ranges.specs.declared.EndTests.{EndTests}
 use Rattle.ranges.specs.declared.Limits.{Limits}
 
 -- a point of a type
@@ -27,12 +29,20 @@ lowestOf width signed = cond signed (2 ^ 31 - powerOf (width - 1)) (2 ^ 31)
 unfoldable pub limitsOf : ℕ → Bool → Limits
 limitsOf width signed = record { low = lowestOf width signed; high = lowestOf width signed + powerOf width - 1 }
 
--- the range at `at` is a span of values within the limits, in order
+-- the tests on the ends of a span, by the bits of their fields: each is within the limits, and they are in order
+unfoldable pub endTests : Limits → ℕ → ℕ → EndTests
+endTests l a b = record {
+  first = within (l .low) (l .high) (valueAt a);
+  last = within (l .low) (l .high) (valueAt b);
+  ordered = leb (valueAt a) (valueAt b);
+}
+
+abbrev pub allPass : EndTests → Bool
+allPass e = (e .first && e .last) && e .ordered
+
+-- the range at `at` is a span whose ends pass them
 unfoldable pub spanIn : List ℕ → Limits → ℕ → Bool
-spanIn s l at =
-    let a = valueAt (u64 s (at + 1)) in
-    let b = valueAt (u64 s (at + 9)) in
-    ((eqb (byte s at) 0 && leb (l .low) a) && leb a b) && leb b (l .high)
+spanIn s l at = eqb (byte s at) 0 && allPass (endTests l (u64 s (at + 1)) (u64 s (at + 9)))
 
 -- so are n ranges from `at` on
 unfoldable pub spansIn : List ℕ → Limits → ℕ → ℕ → Bool
@@ -51,7 +61,3 @@ pub record Wide (s : List ℕ) (at : ℕ) : Type 0 where
 -- so have the n points whose records stand from `points` on
 abbrev pub AllWide : List ℕ → ℕ → ℕ → Type 0
 AllWide s points n = (i : ℕ) → i < n → Wide s (points + 11 * i)
-
-abbrev pub isSpan : Range → Bool
-isSpan (span lo hi) = true
-isSpan (pattern bits mask) = false

@@ -1,4 +1,5 @@
 // Ranges of the table's bytes: the tests on a record's i64 fields in a point's type; below, membership, the next value, how many values there are, and what ignore and illegal bins take.
+pub mod counts;
 pub mod member;
 pub mod next;
 pub mod sizes;
@@ -18,7 +19,7 @@ ghost use lib.ListN.{length};
 ghost use Rattle.model.specs.Lists.{within};
 ghost use Rattle.model.specs.Format.{valueTests, patternTests, rangeRules, readRange, pointRecord, times};
 ghost use Rattle.words.specs.Verdicts.{verdict, verdictOf, verdictIn};
-ghost use Rattle.ranges.specs.Types.{typed, powerOf, limitsOf, valueAt, lowestOf, Wide, spanIn, spansIn, soundSpans};
+ghost use Rattle.ranges.specs.Types.{typed, powerOf, limitsOf, valueAt, lowestOf, Wide, endTests, allPass, spanIn, spansIn, soundSpans};
 
 pub fn power(width: u8) -> u64
     requires { ⌜ width ≤ 32 ⌝ }
@@ -72,23 +73,44 @@ fn fits(l: Limits, v: u64) -> bool
     (l.low <= v) & (v <= l.high)
 }
 
+// The tests on the ends of a span.
+struct EndTests {
+    first: bool,
+    last: bool,
+    ordered: bool,
+}
+
+fn end_tests(l: Limits, a: u64, b: u64) -> EndTests
+    ensures { λ r. ⌜ r ≡ endTests l a b ⌝ }
+{
+    let va = value_at(a);
+    let vb = value_at(b);
+    EndTests {
+        first: fits(l, va),
+        last: fits(l, vb),
+        ordered: va <= vb,
+    }
+}
+
+fn all_pass(e: EndTests) -> bool
+    ensures { λ r. ⌜ r ≡ allPass e ⌝ }
+{
+    e.first & e.last & e.ordered
+}
+
 // Two i64 fields from at on; then what rest says.
 pub fn value_tests(width: u8, signed: bool, a: u64, b: u64, at: usize, rest: Verdict) -> Verdict
     requires { ⌜ (1 ≤ width) × (width ≤ 32) × (at ≤ 100000) ⌝ }
     ensures { λ r. ⌜ r ≡ verdictIn (valueTests (typed width signed) a b at) rest ⌝ }
 {
     let l = limits_of(width, signed);
-    let va = value_at(a);
-    let vb = value_at(b);
-    let first = fits(l, va);
-    let last = fits(l, vb);
-    let ordered = va <= vb;
-    if first & last & ordered {
+    let e = end_tests(l, a, b);
+    if all_pass(e) {
         return rest;
     }
-    let r3 = test(ordered, 4, at + 8, rest);
-    let r2 = test(last, 4, at + 8, r3);
-    test(first, 4, at, r2)
+    let r3 = test(e.ordered, 4, at + 8, rest);
+    let r2 = test(e.last, 4, at + 8, r3);
+    test(e.first, 4, at, r2)
 }
 
 fn pattern_tests(width: u8, signed: bool, a: u64, b: u64, at: usize, rest: Verdict) -> Verdict
@@ -141,15 +163,16 @@ fn range_fault(t: &[u8], width: u8, signed: bool, patterns: bool, at: usize) -> 
     range_rules(width, signed, patterns, kind, a, b, at)
 }
 
-// Whether the range at at is a span of values within the limits, in order.
+// Whether the range at at is a span that passes its tests.
 fn span_in(t: &[u8], l: Limits, at: usize) -> bool
     requires { ⌜ (at + 17 ≤ length (now t)) × (length (now t) ≤ 65536) ⌝ }
     ensures { λ r. ⌜ r ≡ spanIn (now (t .entry)) l at ⌝ }
 {
     let kind = inside(t, at);
-    let a = value_at(whole8(t, at + 1));
-    let b = value_at(whole8(t, at + 9));
-    (kind == 0) & (l.low <= a) & (a <= b) & (b <= l.high)
+    let a = whole8(t, at + 1);
+    let b = whole8(t, at + 9);
+    let ends = all_pass(end_tests(l, a, b));
+    (kind == 0) & ends
 }
 
 // Whether n ranges from start on are.

@@ -68,7 +68,7 @@ pub fn next_in_span(lo: u64, hi: u64, x: u64) -> u64
     if x <= hi { from } else { 8589934592 }
 }
 
-fn next_in_pattern(bits: u64, mask: u64, x: u64) -> u64
+pub fn next_in_pattern(bits: u64, mask: u64, x: u64) -> u64
     requires { ⌜ x ≤ 8589934592 ⌝ }
     ensures { λ r. ⌜ r ≡ nextInRange (pattern bits mask) x ⌝ }
 {

@@ -1,32 +1,12 @@
 // How many bins a cover bin stands for, and how many values each of them gets at least.
-use ranges::next::next_in;
+use ranges::counts::value_count;
 use words::bytes::byte;
 use words::bytes::read2;
 ghost use mathlib.Core.Path.{_≡_};
 ghost use Prim.Native.Nat.{_+_, _/_, _≤_, max};
-ghost use lib.ListN.{length};
 ghost use Rattle.model.specs.Format.{byte};
-ghost use Rattle.model.specs.Ranges.{ascending};
-ghost use Rattle.model.specs.Raw.{rangesAt, binAt};
+ghost use Rattle.model.specs.Raw.{binAt};
 ghost use Rattle.values.specs.Counts.{coverCount};
-
-// How many values from low up k ranges from cover on have; 257 if there are more.
-fn value_count(t: &[u8], cover: usize, k: usize, low: u64) -> usize
-    requires { ⌜ (cover ≤ 2000000000) × (k ≤ 65535) × (low ≤ 8589934592) ⌝ }
-    ensures { λ r. ⌜ (r ≡ length (ascending 257 (rangesAt (now (t .entry)) cover k) low)) × (r ≤ 257) ⌝ }
-{
-    let mut x = low;
-    let mut i: usize = 0;
-    while i < 257 {
-        let v = next_in(t, cover, k, x);
-        if v >= 8589934592 {
-            return i;
-        }
-        x = v + 1;
-        i += 1;
-    }
-    i
-}
 
 // How many bins the cover bin at b stands for, its ranges from r on, where it is not one bin (form 0); 257 if there are more. low: the lowest value of its type.
 pub fn several_count(t: &[u8], b: usize, r: usize, low: u64) -> usize

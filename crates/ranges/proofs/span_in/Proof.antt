@@ -12,21 +12,21 @@ add-whole8 c = search needs
 whole8-requires : tie.Need-whole8-requires
 whole8-requires c κs = search needs
 
-value-at-requires : tie.Need-value-at-requires
-value-at-requires c κs = search needs
-
 add-whole8-2 : tie.Need-add-whole8-2
 add-whole8-2 c = search needs
 
 whole8-requires-2 : tie.Need-whole8-requires-2
 whole8-requires-2 c κs = search needs
 
-value-at-requires-2 : tie.Need-value-at-requires-2
-value-at-requires-2 c κs = search needs
+end-tests-requires : tie.Need-end-tests-requires
+end-tests-requires c κs = search needs
+
+all-pass-requires : tie.Need-all-pass-requires
+all-pass-requires c κs = search needs
 
 returns : tie.Need-returns
 unfolding spanIn
-returns c = rw (c .before .before .value-at2 .ensures, c .before .before .before .whole82 .ensures, c .before .before .before .before .value-at .ensures, c .before .before .before .before .before .whole8 .ensures, c .before .before .before .before .before .before .inside .ensures)
+returns c = rw (c .all-pass .ensures, c .before .end-tests .ensures, c .before .before .whole82 .ensures, c .before .before .before .whole8 .ensures, c .before .before .before .before .inside .ensures)
 
 pub span-in-spec : {M : Type 1} → statement M
 span-in-spec =
@@ -35,8 +35,8 @@ span-in-spec =
     inside-requires
     add-whole8
     whole8-requires
-    value-at-requires
     add-whole8-2
     whole8-requires-2
-    value-at-requires-2
+    end-tests-requires
+    all-pass-requires
     returns)

@@ -2,7 +2,7 @@ use mathlib.Core.Path.{refl}
 use Rattle.words.specs.Verdicts.{verdictIn}
 use Rattle.words.proofs.Laws.{passing, passed}
 use Rattle.model.specs.Format.{valueTests}
-use Rattle.ranges.specs.Types.{limitsOf, lowestOf, powerOf, valueAt}
+use Rattle.ranges.specs.Types.{endTests, limitsOf, lowestOf, powerOf, valueAt}
 use borrow.Author.Needs.{needs}
 use Rattle.ranges.proofs.value_tests.Statement.{statement}
 use Rattle.ranges.proofs.value_tests.Tie as tie
@@ -10,21 +10,15 @@ use Rattle.ranges.proofs.value_tests.Tie as tie
 limits-of-requires : tie.Need-limits-of-requires
 limits-of-requires c κs = search needs
 
-value-at-requires : tie.Need-value-at-requires
-value-at-requires c κs = search needs
+end-tests-requires : tie.Need-end-tests-requires
+end-tests-requires c κs = search needs
 
-value-at-requires-2 : tie.Need-value-at-requires-2
-value-at-requires-2 c κs = search needs
-
-fits-requires : tie.Need-fits-requires
-fits-requires c κs = search needs
-
-fits-requires-2 : tie.Need-fits-requires-2
-fits-requires-2 c κs = search needs
+all-pass-requires : tie.Need-all-pass-requires
+all-pass-requires c κs = search needs
 
 returns : tie.Need-returns
-unfolding valueTests limitsOf lowestOf powerOf valueAt passing
-returns c = passed _ _ _ _ refl (c .if1 .taken) (rw (c .before .fits3 .ensures, c .before .before .fits2 .ensures, c .before .before .before .value-at2 .ensures, c .before .before .before .before .value-at .ensures, c .before .before .before .before .before .limits-of .ensures))
+unfolding valueTests endTests limitsOf lowestOf powerOf valueAt passing
+returns c = passed _ _ _ _ refl (c .if1 .taken) (rw (c .before .all-pass .ensures, c .before .before .end-tests .ensures, c .before .before .before .limits-of .ensures))
 
 add-test : tie.Need-add-test
 add-test c = search needs
@@ -42,18 +36,16 @@ test-requires-3 : tie.Need-test-requires-3
 test-requires-3 c κs = search needs
 
 returns-2 : tie.Need-returns-2
-unfolding verdictIn valueTests limitsOf lowestOf powerOf valueAt
-returns-2 c = rw (c .test3 .ensures, c .before .test2 .ensures, c .before .before .test .ensures, c .before .before .before .before .fits3 .ensures, c .before .before .before .before .before .fits2 .ensures, c .before .before .before .before .before .before .value-at2 .ensures, c .before .before .before .before .before .before .before .value-at .ensures, c .before .before .before .before .before .before .before .before .limits-of .ensures)
+unfolding verdictIn valueTests endTests limitsOf lowestOf powerOf valueAt
+returns-2 c = rw (c .test3 .ensures, c .before .test2 .ensures, c .before .before .test .ensures, c .before .before .before .before .before .end-tests .ensures, c .before .before .before .before .before .before .limits-of .ensures)
 
 pub value-tests-spec : {M : Type 1} → statement M
 value-tests-spec =
     tie.close
     (tie.spec
     limits-of-requires
-    value-at-requires
-    value-at-requires-2
-    fits-requires
-    fits-requires-2
+    end-tests-requires
+    all-pass-requires
     returns
     add-test
     test-requires

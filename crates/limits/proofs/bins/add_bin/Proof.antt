@@ -31,33 +31,30 @@ add-covers-of c = omega (arith, c .before .inside .ensures)
 covers-of-requires : tie.Need-covers-of-requires
 covers-of-requires c κs =
     let a = c .before .before .before .before .before .before .args in (
-      (
-        omega (arith, c .before .inside .ensures),
-        search needs,
-        search needs,
-        subst (λ (p : ℕ). Wide (a .t .now) (a .points + 11 * p)) (sym (c .before .inside .ensures)) (c .before .before .before .before .before .before .pre .0 .4),
-        search needs,
-      ),
-      c .before .before .before .before .before .before .pre .1 .0,
+      omega (arith, c .before .inside .ensures),
+      search needs,
+      search needs,
+      subst (λ (p : ℕ). Wide (a .t .now) (a .points + 11 * p)) (sym (c .before .inside .ensures)) (c .before .before .before .before .before .before .pre .0 .4),
+      search needs,
     )
 
 add-requires : tie.Need-add-requires
 add-requires c κs =
-    entries-room 50000000 65535 _ _ _ (c .before .before .before .before .before .before .before .before .pre .1 .1 .0) (omega (arith, c .before .before .before .inside .ensures)) (c .before .covers-of .ensures .1) (omega arith)
+    entries-room 50000000 65535 _ _ _ (c .before .before .before .before .before .before .before .before .pre .1 .0) (omega (arith, c .before .before .before .inside .ensures)) (c .before .covers-of .ensures .1) (omega arith)
 
 single-of-requires : tie.Need-single-of-requires
 single-of-requires c κs = search needs
 
 add-requires-2 : tie.Need-add-requires-2
 add-requires-2 c κs =
-    entries-room 1000 1 _ _ _ (c .before .before .before .before .before .before .before .before .before .before .before .before .before .pre .1 .1 .1) (omega (arith, c .before .before .before .before .before .before .before .before .inside .ensures)) (c .single-of .ensures .1) (omega arith)
+    entries-room 1000 1 _ _ _ (c .before .before .before .before .before .before .before .before .before .before .before .before .before .pre .1 .1) (omega (arith, c .before .before .before .before .before .before .before .before .inside .ensures)) (c .single-of .ensures .1) (omega arith)
 
 bar-of-requires : tie.Need-bar-of-requires
 bar-of-requires c κs = search needs
 
 add-requires-3 : tie.Need-add-requires-3
 add-requires-3 c κs =
-    entries-room 1000 1 _ _ _ (c .before .before .before .before .before .before .before .before .before .before .before .before .before .before .before .before .before .before .pre .1 .1 .2) (omega (arith, c .before .before .before .before .before .before .before .before .before .before .before .before .before .inside .ensures)) (c .bar-of .ensures .1) (omega arith)
+    entries-room 1000 1 _ _ _ (c .before .before .before .before .before .before .before .before .before .before .before .before .before .before .before .before .before .before .pre .1 .2) (omega (arith, c .before .before .before .before .before .before .before .before .before .before .before .before .before .inside .ensures)) (c .bar-of .ensures .1) (omega arith)
 
 same-length : tie.Need-same-length
 same-length c = search needs

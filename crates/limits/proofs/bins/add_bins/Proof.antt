@@ -8,7 +8,7 @@ use Rattle.model.specs.Lists.{all}
 use Rattle.model.specs.Format.{byte, kindFrom}
 use Rattle.model.specs.Raw.{binsAt}
 use Rattle.limits.specs.Walks.{walkSum, after, isByte, valueIllegals}
-use Rattle.limits.specs.Bins.{added, Entries, countable, binPoint, binCovers, binSingles, binBars}
+use Rattle.limits.specs.Bins.{added, Entries, binBelow, binPoint, binCovers, binSingles, binBars}
 use Rattle.limits.proofs.KindLaws.{single-few, bar-few}
 use Rattle.limits.proofs.WalkLaws.{walk-start, walk-on, walk-done}
 use Rattle.limits.proofs.EntryLaws.{entries-more, entries-up, bins-start, bins-on, bins-done, bins-first, bins-others}
@@ -18,7 +18,7 @@ use Rattle.limits.proofs.bins.add_bins.Tie as tie
 
 abbrev Inv-loop : tie.InvT-loop
 Inv-loop covers₀ singles₀ bars₀ t l n illegals₀ b₀ r₀ i₀ covers singles bars illegals b r i =
-    (i ≤ n) × (b ≤ l .bins + 8 * i) × (r ≤ l .ranges + 1114095 * i) × Entries (65535 * i) covers × Entries i singles × Entries i bars × (all (countable (l .«point_count»)) (binsAt t b r (n - i)) ≡ true)
+    (i ≤ n) × (b ≤ l .bins + 8 * i) × (r ≤ l .ranges + 1114095 * i) × Entries (65535 * i) covers × Entries i singles × Entries i bars × (all (binBelow (l .«point_count»)) (binsAt t b r (n - i)) ≡ true)
     × (added binPoint (binCovers t (l .points)) (binsAt t (l .bins) (l .ranges) n) covers₀ ≡ added binPoint (binCovers t (l .points)) (binsAt t b r (n - i)) covers)
     × (added binPoint binSingles (binsAt t (l .bins) (l .ranges) n) singles₀ ≡ added binPoint binSingles (binsAt t b r (n - i)) singles)
     × (added binPoint binBars (binsAt t (l .bins) (l .ranges) n) bars₀ ≡ added binPoint binBars (binsAt t b r (n - i)) bars)
@@ -37,7 +37,7 @@ loop-holds c =
       entries-up 0 _ _ (pre .1 .1 .0) (search needs),
       entries-up 0 _ _ (pre .1 .1 .1) (search needs),
       entries-up 0 _ _ (pre .1 .1 .2) (search needs),
-      ap (λ (m : ℕ). all (countable (a .l .«point_count»)) (binsAt (a .t .now) (a .l .bins) (a .l .ranges) m)) (sub-zero (a .l .«bin_count»)) ∙ pre .1 .0,
+      ap (λ (m : ℕ). all (binBelow (a .l .«point_count»)) (binsAt (a .t .now) (a .l .bins) (a .l .ranges) m)) (sub-zero (a .l .«bin_count»)) ∙ pre .1 .0,
       bins-start _ (a .t .now) (a .l .bins) (a .l .ranges) (a .l .«bin_count») _,
       bins-start _ (a .t .now) (a .l .bins) (a .l .ranges) (a .l .«bin_count») _,
       bins-start _ (a .t .now) (a .l .bins) (a .l .ranges) (a .l .«bin_count») _,
@@ -50,8 +50,8 @@ add-bin-requires c κs =
     let a = c .before .before .before .before .before .before .before .before .before .args in
     let l = c .before .before .before .before .loop in
     let f = bins-first (a .t .now) (a .l .«point_count») (l .b) (l .r) (a .l .«bin_count») (l .i) (l .inv .6) (search needs) in (
-      (search needs, search needs, search needs, omega (arith, f .0), c .before .before .before .before .before .before .before .before .before .pre .0 .5 _ (f .0), search needs),
-      (f .1, (entries-up _ 50000000 _ (l .inv .3) (search needs), entries-up _ 1000 _ (l .inv .4) (search needs), entries-up _ 1000 _ (l .inv .5) (search needs))),
+      (search needs, search needs, search needs, omega (arith, f), c .before .before .before .before .before .before .before .before .before .pre .0 .5 _ f, search needs),
+      (entries-up _ 50000000 _ (l .inv .3) (search needs), entries-up _ 1000 _ (l .inv .4) (search needs), entries-up _ 1000 _ (l .inv .5) (search needs)),
     )
 
 add-inside : tie.Need-add-inside Inv-loop μ-loop

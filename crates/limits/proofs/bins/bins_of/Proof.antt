@@ -1,13 +1,11 @@
 use Prim.Native.Nat.{ℕ, _+_}
 use mathlib.Core.Path.{sym, ap, _∙_}
 use lib.ListN.{length}
-use Rattle.model.specs.Lists.{all}
 use Rattle.model.specs.Format.{byte, u16, pointRecord}
 use Rattle.model.specs.Ranges.{firstValues}
 use Rattle.model.specs.Raw.{rangesAt}
-use Rattle.ranges.specs.Types.{isSpan}
 use Rattle.limits.specs.Bins.{ownRanges}
-use Rattle.limits.proofs.KindLaws.{form-single, form-per-value, form-fixed, spanned-per-value}
+use Rattle.limits.proofs.KindLaws.{form-single, form-per-value, form-fixed}
 use borrow.Author.Needs.{needs}
 use Rattle.limits.proofs.bins.bins_of.Statement.{statement}
 use Rattle.limits.proofs.bins.bins_of.Tie as tie
@@ -39,10 +37,7 @@ cast-per-value : tie.Need-cast-per-value
 cast-per-value c = search needs
 
 per-value-requires : tie.Need-per-value-requires
-per-value-requires c κs =
-    let a = c .before .before .before .before .before .before .args in
-    let spans = spanned-per-value (ownRanges (a .t .now) (a .b) (a .r)) (byte (a .t .now) (a .b + 2)) (u16 (a .t .now) (a .b + 3)) (sym (c .before .before .before .before .inside .ensures) ∙ c .if2 .taken) (c .before .before .before .before .before .before .pre .1) in
-    (search needs, search needs, search needs, ap (λ (n : ℕ). all isSpan (rangesAt (a .t .now) (a .r) n)) (c .before .before .whole22 .ensures) ∙ spans, c .before .before .before .before .before .before .pre .0 .3)
+per-value-requires c κs = search needs
 
 returns-2 : tie.Need-returns-2
 returns-2 c =

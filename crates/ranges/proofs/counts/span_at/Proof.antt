@@ -1,7 +1,7 @@
-use Rattle.limits.proofs.SpanLaws.{span-record}
+use Rattle.ranges.proofs.CountLaws.{span-record}
 use borrow.Author.Needs.{needs}
-use Rattle.limits.proofs.values.span_at.Statement.{statement}
-use Rattle.limits.proofs.values.span_at.Tie as tie
+use Rattle.ranges.proofs.counts.span_at.Statement.{statement}
+use Rattle.ranges.proofs.counts.span_at.Tie as tie
 
 add-read8 : tie.Need-add-read8
 add-read8 c = search needs

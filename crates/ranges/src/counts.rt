@@ -1,21 +1,20 @@
-// How many values the spans of a bin have: no more than 257 are told apart, and they are counted by span.
-use ranges::lowest;
-use ranges::next::larger;
-use ranges::next::least;
-use ranges::value_at;
+// How many different values ranges that stand in the table's bytes have: no more than 257 are told apart, and they are counted by span.
+use crate::next::larger;
+use crate::next::least;
+use crate::next::next_in_pattern;
+use crate::next::next_in_span;
+use crate::value_at;
 use words::bytes::byte;
 use words::bytes::read8;
 ghost use mathlib.Core.Path.{_≡_};
-ghost use mathlib.Core.Bool.{true, cond};
+ghost use mathlib.Core.Bool.{cond};
 ghost use Prim.Native.Nat.{_≤_, min};
 ghost use lib.ListN.{length};
-ghost use Rattle.model.specs.Lists.{all};
 ghost use Rattle.model.specs.Table.{span};
-ghost use Rattle.model.specs.Format.{pointRecord, rangeRecord};
-ghost use Rattle.model.specs.Ranges.{ascending, firstValues, sizes};
+ghost use Rattle.model.specs.Format.{byte, rangeRecord};
+ghost use Rattle.model.specs.Ranges.{ascending, nextInRange, nextIn, sizes};
 ghost use Rattle.model.specs.Raw.{rangesAt};
-ghost use Rattle.ranges.specs.Types.{Wide, isSpan};
-ghost use Rattle.limits.specs.Spans.{inOrder, rising, nearerOf, FirstOf};
+ghost use Rattle.ranges.specs.Counts.{inOrder, rising, nearerOf, FirstOf};
 
 // Values that stand in a row.
 pub struct Stretch {
@@ -25,7 +24,7 @@ pub struct Stretch {
 
 // The span at at.
 fn span_at(t: &[u8], at: usize) -> Stretch
-    requires { ⌜ (at ≤ 2000000000) × (isSpan (rangeRecord (now t) at) ≡ true) ⌝ }
+    requires { ⌜ (at ≤ 4000000000) × (byte (now t) at ≡ 0) ⌝ }
     ensures { λ r. ⌜ rangeRecord (now (t .entry)) at ≡ span (r .first) (r .last) ⌝ }
 {
     let a = value_at(read8(t, at + 1));
@@ -40,9 +39,9 @@ fn in_order(x: u64, lo: u64, hi: u64) -> bool
     (x <= lo) & (lo <= hi) & (hi < 8589934592)
 }
 
-// The values of n spans that rise from low on; 258 if they do not.
+// The values of n ranges that are spans and rise from low on; 258 if they are not.
 fn rising_count(t: &[u8], start: usize, n: usize, low: u64) -> usize
-    requires { ⌜ (start ≤ 1000000000) × (n ≤ 65535) × (all isSpan (rangesAt (now t) start n) ≡ true) ⌝ }
+    requires { ⌜ (start ≤ 2000000000) × (n ≤ 65535) ⌝ }
     ensures { λ r. ⌜ r ≡ cond (rising (rangesAt (now (t .entry)) start n) low) (min 257 (sizes (rangesAt (now (t .entry)) start n))) 258 ⌝ }
 {
     let mut x = low;
@@ -50,6 +49,10 @@ fn rising_count(t: &[u8], start: usize, n: usize, low: u64) -> usize
     let mut at = start;
     let mut i = 0;
     while i < n {
+        let kind = byte(t, at);
+        if kind != 0 {
+            return 258;
+        }
         let s = span_at(t, at);
         let lo = s.first;
         let hi = s.last;
@@ -64,24 +67,44 @@ fn rising_count(t: &[u8], start: usize, n: usize, low: u64) -> usize
     count as usize
 }
 
-// The values of a span from x up, if they begin before the best.
-fn nearer(best: Stretch, lo: u64, hi: u64, x: u64) -> Stretch
-    ensures { λ r. ⌜ r ≡ nearerOf best lo hi x ⌝ }
+// The first values of the range at at from x up that stand in a row; of a pattern the first alone.
+fn stretch_at(t: &[u8], at: usize, x: u64) -> Stretch
+    requires { ⌜ (at ≤ 4000000000) × (x ≤ 8589934592) ⌝ }
+    ensures { λ r. ⌜ FirstOf (nextInRange (rangeRecord (now (t .entry)) at)) x r ⌝ }
 {
-    let from = larger(lo, x);
-    if (x <= hi) & (from < best.first) {
+    let kind = byte(t, at);
+    let a = read8(t, at + 1);
+    let b = read8(t, at + 9);
+    if kind == 0 {
+        let lo = value_at(a);
+        let hi = value_at(b);
+        let first = next_in_span(lo, hi, x);
         return Stretch {
-            first: from,
+            first: first,
             last: hi,
         };
     }
-    best
+    let first = next_in_pattern(a, b, x);
+    Stretch {
+        first: first,
+        last: 0,
+    }
 }
 
-// The first values of n spans from x up that stand in a row; the first is 2^33 if there are none.
+fn nearer(best: Stretch, other: Stretch) -> Stretch
+    ensures { λ r. ⌜ r ≡ nearerOf best other ⌝ }
+{
+    if other.first < best.first {
+        other
+    } else {
+        best
+    }
+}
+
+// The first values of n ranges from x up that stand in a row; the first is 2^33 if there are none.
 fn stretch_from(t: &[u8], start: usize, n: usize, x: u64) -> Stretch
-    requires { ⌜ (start ≤ 1000000000) × (n ≤ 65535) × (all isSpan (rangesAt (now t) start n) ≡ true) ⌝ }
-    ensures { λ r. ⌜ FirstOf (rangesAt (now (t .entry)) start n) x r ⌝ }
+    requires { ⌜ (start ≤ 2000000000) × (n ≤ 65535) × (x ≤ 8589934592) ⌝ }
+    ensures { λ r. ⌜ FirstOf (nextIn (rangesAt (now (t .entry)) start n)) x r ⌝ }
 {
     let mut best = Stretch {
         first: 8589934592,
@@ -90,17 +113,17 @@ fn stretch_from(t: &[u8], start: usize, n: usize, x: u64) -> Stretch
     let mut at = start;
     let mut i = 0;
     while i < n {
-        let s = span_at(t, at);
-        best = nearer(best, s.first, s.last, x);
+        let s = stretch_at(t, at, x);
+        best = nearer(best, s);
         at += 17;
         i += 1;
     }
     best
 }
 
-// How many values from low up n spans have; 257 if there are more.
+// How many values from low up n ranges have; 257 if there are more.
 fn stretch_count(t: &[u8], start: usize, n: usize, low: u64) -> usize
-    requires { ⌜ (start ≤ 1000000000) × (n ≤ 65535) × (all isSpan (rangesAt (now t) start n) ≡ true) ⌝ }
+    requires { ⌜ (start ≤ 2000000000) × (n ≤ 65535) × (low ≤ 8589934592) ⌝ }
     ensures { λ r. ⌜ (r ≡ length (ascending 257 (rangesAt (now (t .entry)) start n) low)) × (r ≤ 257) ⌝ }
 {
     let mut x = low;
@@ -118,9 +141,9 @@ fn stretch_count(t: &[u8], start: usize, n: usize, low: u64) -> usize
     count as usize
 }
 
-// The same, in one pass where the spans rise.
-fn value_count(t: &[u8], start: usize, n: usize, low: u64) -> usize
-    requires { ⌜ (start ≤ 1000000000) × (n ≤ 65535) × (all isSpan (rangesAt (now t) start n) ≡ true) ⌝ }
+// The same, in one pass where the ranges are spans that rise.
+pub fn value_count(t: &[u8], start: usize, n: usize, low: u64) -> usize
+    requires { ⌜ (start ≤ 2000000000) × (n ≤ 65535) × (low ≤ 8589934592) ⌝ }
     ensures { λ r. ⌜ (r ≡ length (ascending 257 (rangesAt (now (t .entry)) start n) low)) × (r ≤ 257) ⌝ }
 {
     let found = rising_count(t, start, n, low);
@@ -128,15 +151,4 @@ fn value_count(t: &[u8], start: usize, n: usize, low: u64) -> usize
         return found;
     }
     stretch_count(t, start, n, low)
-}
-
-// The same from the lowest value of the type of the point whose record is at point.
-pub fn per_value(t: &[u8], point: usize, start: usize, n: usize) -> usize
-    requires { ⌜ (point ≤ 1000000000) × (start ≤ 1000000000) × (n ≤ 65535) × (all isSpan (rangesAt (now t) start n) ≡ true) × Wide (now t) point ⌝ }
-    ensures { λ r. ⌜ (r ≡ length (firstValues (pointRecord (now (t .entry)) point) (rangesAt (now (t .entry)) start n))) × (r ≤ 257) ⌝ }
-{
-    let width = byte(t, point);
-    let signed = byte(t, point + 1);
-    let low = lowest(width, signed == 1);
-    value_count(t, start, n, low)
 }

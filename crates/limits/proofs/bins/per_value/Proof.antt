@@ -5,8 +5,8 @@ use Rattle.model.specs.Ranges.{ascending}
 use Rattle.model.specs.Raw.{rangesAt}
 use Rattle.ranges.proofs.RangeLaws.{low-record}
 use borrow.Author.Needs.{needs}
-use Rattle.limits.proofs.values.per_value.Statement.{statement}
-use Rattle.limits.proofs.values.per_value.Tie as tie
+use Rattle.limits.proofs.bins.per_value.Statement.{statement}
+use Rattle.limits.proofs.bins.per_value.Tie as tie
 
 byte-requires : tie.Need-byte-requires
 byte-requires c κs = search needs

@@ -1,4 +1,4 @@
--- The values of spans, counted by span, are those that are found one after the other.
+-- The values of ranges, counted by span, are those that are found one after the other.
 -- Assumes nothing.
 use mathlib.Core.Path.{_≡_, refl, sym, ap, ap₂, _∙_, subst}
 use mathlib.Core.Bool.{Bool, true, false, _&&_, cond}
@@ -6,9 +6,9 @@ use mathlib.Core.List.{List, [], _∷_}
 use Prim.Native.Nat.{ℕ, zero, suc, _+_, _-_, _≤_, _<_, min, max}
 use native.Mathlib.Nat.{sub-zero}
 use native.Mathlib.Omega.{arith}
-use lib.Dec.{leb, ltb, eqb}
+use lib.Dec.{leb, ltb}
 use lib.ListN.{length}
-use borrow.Author.Tests.{lt-ltb, le-ltb, ltb-true, ltb-false, le-leb, lt-leb, leb-true, leb-false}
+use borrow.Author.Tests.{eq-eqb, ne-eqb, lt-ltb, le-ltb, ltb-true, ltb-false, le-leb, lt-leb, leb-true, leb-false}
 use Rattle.model.specs.Lists.{sumOf}
 use Rattle.model.specs.Table.{Range, span, pattern}
 use Rattle.model.specs.Values.{fieldValue}
@@ -18,27 +18,21 @@ use Rattle.model.specs.Raw.{rows, rangesAt}
 use Rattle.model.proofs.Booleans.{false-true, and-left, and-right}
 use Rattle.model.proofs.NextValue.{next-ge, next-below}
 use Rattle.model.proofs.Lists.{none-left, one-left}
-use Rattle.ranges.specs.Types.{valueAt, isSpan}
-use Rattle.limits.specs.declared.values.Stretch.{Stretch}
-use Rattle.limits.specs.Spans.{inOrder, rising, nearerOf, FirstOf}
+use Rattle.ranges.specs.Types.{valueAt}
+use Rattle.ranges.specs.declared.counts.Stretch.{Stretch}
+use Rattle.ranges.specs.Counts.{inOrder, rising, nearerOf, FirstOf}
 
 -- ---- a record
 
-pub span-record : (s : List ℕ) (at a b lo hi : ℕ) → isSpan (rangeRecord s at) ≡ true → a ≡ u64 s (at + 1) → lo ≡ valueAt a → b ≡ u64 s (at + 9) → hi ≡ valueAt b
-    → rangeRecord s at ≡ span lo hi
+pub span-record : (s : List ℕ) (at a b lo hi : ℕ) → byte s at ≡ 0 → a ≡ u64 s (at + 1) → lo ≡ valueAt a → b ≡ u64 s (at + 9) → hi ≡ valueAt b → rangeRecord s at ≡ span lo hi
 unfolding valueAt
 span-record s at a b lo hi e ea elo eb ehi =
-    go (eqb (byte s at) 0) e ∙ ap₂ span (ap fieldValue (sym ea) ∙ sym elo) (ap fieldValue (sym eb) ∙ sym ehi)
-  where
-    x : ℕ
-    x = u64 s (at + 1)
+    ap (λ (c : Bool). cond c (span (fieldValue (u64 s (at + 1))) (fieldValue (u64 s (at + 9)))) (pattern (u64 s (at + 1)) (u64 s (at + 9)))) (eq-eqb (byte s at) 0 e)
+    ∙ ap₂ span (ap fieldValue (sym ea) ∙ sym elo) (ap fieldValue (sym eb) ∙ sym ehi)
 
-    y : ℕ
-    y = u64 s (at + 9)
-
-    go : (c : Bool) → isSpan (cond c (span (fieldValue x) (fieldValue y)) (pattern x y)) ≡ true → cond c (span (fieldValue x) (fieldValue y)) (pattern x y) ≡ span (fieldValue x) (fieldValue y)
-    go true e = refl
-    go false e = absurd (false-true e)
+pattern-record : (s : List ℕ) (at : ℕ) → (byte s at ≡ 0 → ⊥) → rangeRecord s at ≡ pattern (u64 s (at + 1)) (u64 s (at + 9))
+pattern-record s at e =
+    ap (λ (c : Bool). cond c (span (fieldValue (u64 s (at + 1))) (fieldValue (u64 s (at + 9)))) (pattern (u64 s (at + 1)) (u64 s (at + 9)))) (ne-eqb (byte s at) 0 e)
 
 -- ---- the next value
 
@@ -114,7 +108,7 @@ module _ (rs : List Range) where
       omega (arith, found k y y v (first .0), c)
 
   -- the first value from x up, and those after it in a row
-  pub stretch-on : (x whole count : ℕ) → whole ≡ count + length (ascending (257 - count) rs x) → (r : Stretch) → FirstOf rs x r → count < 257 → (m last count′ : ℕ) → r .first < 8589934592
+  pub stretch-on : (x whole count : ℕ) → whole ≡ count + length (ascending (257 - count) rs x) → (r : Stretch) → FirstOf (nextIn rs) x r → count < 257 → (m last count′ : ℕ) → r .first < 8589934592
       → m ≡ min (r .last) 8589934591 → last ≡ max (r .first) m → count′ ≡ min 257 (count + (last + 1 - r .first)) → whole ≡ count′ + length (ascending (257 - count′) rs (last + 1))
   stretch-on x whole count inv r f h m last count′ small em el ec =
       let v = r .first in
@@ -133,7 +127,7 @@ module _ (rs : List Range) where
   pub stretch-start : (x : ℕ) → length (ascending 257 rs x) ≡ 0 + length (ascending (257 - 0) rs x)
   stretch-start x = let z : length (ascending 257 rs x) ≡ 0 + length (ascending 257 rs x) = omega arith in z
 
-  pub stretch-none : (x whole count : ℕ) → whole ≡ count + length (ascending (257 - count) rs x) → (r : Stretch) → FirstOf rs x r → 8589934592 ≤ r .first → count ≡ whole
+  pub stretch-none : (x whole count : ℕ) → whole ≡ count + length (ascending (257 - count) rs x) → (r : Stretch) → FirstOf (nextIn rs) x r → 8589934592 ≤ r .first → count ≡ whole
   stretch-none x whole count inv r f h = omega (arith, none (257 - count) x (r .first) (f .first) h)
 
   pub stretch-done : (x whole count : ℕ) → whole ≡ count + length (ascending (257 - count) rs x) → 257 ≤ count → count ≡ whole
@@ -225,12 +219,19 @@ module _ (s : List ℕ) (n : ℕ) where
     unfolding rising rows sizes sumOf
     rising-done h k = let y : whole ≡ min 257 (count + 0) = rw (none-left n i h) at inv in omega arith
 
+    first-left : i < n → (r : Range) → rangeRecord s at ≡ r → whole ≡ answerFrom (r ∷ rangesAt s (at + 17) (n - (i + 1))) x count
+    unfolding rows
+    first-left h r e =
+        let y : whole ≡ answerFrom (rangeRecord s at ∷ rangesAt s (at + 17) (n - (i + 1))) x count = rw (one-left n i h) at inv in
+        y ∙ ap (λ (r : Range). answerFrom (r ∷ rangesAt s (at + 17) (n - (i + 1))) x count) e
+
+    pub rising-pattern : i < n → (byte s at ≡ 0 → ⊥) → 258 ≡ whole
+    unfolding rising
+    rising-pattern h e = sym (first-left h (pattern (u64 s (at + 1)) (u64 s (at + 9))) (pattern-record s at e))
+
     module _ (h : i < n) (lo hi : ℕ) (e : rangeRecord s at ≡ span lo hi) where
       one : whole ≡ answerFrom (span lo hi ∷ rangesAt s (at + 17) (n - (i + 1))) x count
-      unfolding rows
-      one =
-          let y : whole ≡ answerFrom (rangeRecord s at ∷ rangesAt s (at + 17) (n - (i + 1))) x count = rw (one-left n i h) at inv in
-          y ∙ ap (λ (r : Range). answerFrom (r ∷ rangesAt s (at + 17) (n - (i + 1))) x count) e
+      one = first-left h (span lo hi) e
 
       pub rising-stop : inOrder x lo hi ≡ false → 258 ≡ whole
       unfolding rising
@@ -254,35 +255,28 @@ pub record Nearest (rs rest : List Range) (x : ℕ) (best : Stretch) : Type 0 wh
   pub among : (y : ℕ) → nextIn rs y ≤ nextIn rest y
   pub row : (y : ℕ) → best .first ≤ y → y ≤ best .last → y < noValue → nextIn rs y ≤ y
 
-nearest-next : (rs rest : List Range) (x lo hi : ℕ) (best : Stretch) → Nearest rs (span lo hi ∷ rest) x best → Nearest rs rest x (nearerOf best lo hi x)
-nearest-next rs rest x lo hi best near = go (leb x hi) (ltb (max lo x) (best .first)) refl refl
+nearest-next : (rs rest : List Range) (r : Range) (x : ℕ) (best other : Stretch) → Nearest rs (r ∷ rest) x best → FirstOf (nextInRange r) x other → Nearest rs rest x (nearerOf best other)
+nearest-next rs rest r x best other near f = go (ltb (other .first) (best .first)) refl
   where
-    next : nextIn rs x ≡ min (best .first) (min (nextInRange (span lo hi) x) (nextIn rest x))
+    next : nextIn rs x ≡ min (best .first) (min (nextInRange r x) (nextIn rest x))
     next = unfold nextIn in near .first
 
-    others : (y : ℕ) → nextIn rs y ≤ min (nextInRange (span lo hi) y) (nextIn rest y)
+    others : (y : ℕ) → nextIn rs y ≤ min (nextInRange r y) (nextIn rest y)
     others y = unfold nextIn in near .among y
 
     left : (y : ℕ) → nextIn rs y ≤ nextIn rest y
     left y = omega (arith, others y)
 
-    in-span : (y : ℕ) → lo ≤ y → y ≤ hi → nextIn rs y ≤ y
-    in-span y a b = omega (arith, others y, span-next lo hi y b)
-
-    kept : nextIn rs x ≡ min (best .first) (nextIn rest x) → Nearest rs rest x best
-    kept e = record { first = e; small = near .small; among = left; row = near .row }
-
-    go : (p q : Bool) → leb x hi ≡ p → ltb (max lo x) (best .first) ≡ q → Nearest rs rest x (cond (p && q) (record { first = max lo x; last = hi }) best)
-    go true true e f =
-        let less = ltb-true (max lo x) (best .first) f in
+    go : (b : Bool) → ltb (other .first) (best .first) ≡ b → Nearest rs rest x (cond b other best)
+    go true e =
+        let less = ltb-true (other .first) (best .first) e in
         record {
-          first = omega (arith, next, span-next lo hi x (leb-true x hi e), less);
+          first = omega (arith, next, f .first, less);
           small = omega (arith, less, near .small);
           among = left;
-          row = λ y a b c. in-span y (omega (arith, a)) b;
+          row = λ y a b c. omega (arith, others y, f .row y a b c);
         }
-    go true false e f = kept (omega (arith, next, span-next lo hi x (leb-true x hi e), ltb-false (max lo x) (best .first) f))
-    go false q e f = kept (omega (arith, next, span-past lo hi x (leb-false x hi e), near .small))
+    go false e = record { first = omega (arith, next, f .first, ltb-false (other .first) (best .first) e); small = near .small; among = left; row = near .row }
 
 module _ (s : List ℕ) (start n x : ℕ) where
   pub nearest-start : Nearest (rangesAt s start n) (rangesAt s start (n - 0)) x (record { first = 8589934592; last = 0 })
@@ -292,15 +286,14 @@ module _ (s : List ℕ) (start n x : ℕ) where
       rw sub-zero z
 
   module _ (i at : ℕ) (best : Stretch) (near : Nearest (rangesAt s start n) (rangesAt s at (n - i)) x best) where
-    pub nearest-on : (lo hi : ℕ) (best′ : Stretch) → i < n → rangeRecord s at ≡ span lo hi → best′ ≡ nearerOf best lo hi x → Nearest (rangesAt s start n) (rangesAt s (at + 17) (n - (i + 1))) x best′
+    pub nearest-on : (other best′ : Stretch) → i < n → FirstOf (nextInRange (rangeRecord s at)) x other → best′ ≡ nearerOf best other → Nearest (rangesAt s start n) (rangesAt s (at + 17) (n - (i + 1))) x best′
     unfolding rows
-    nearest-on lo hi best′ h e eb =
+    nearest-on other best′ h f eb =
         let rest = rangesAt s (at + 17) (n - (i + 1)) in
         let y : Nearest (rangesAt s start n) (rangeRecord s at ∷ rest) x best = subst (λ (m : ℕ). Nearest (rangesAt s start n) (rangesAt s at m) x best) (one-left n i h) near in
-        let z : Nearest (rangesAt s start n) (span lo hi ∷ rest) x best = subst (λ (r : Range). Nearest (rangesAt s start n) (r ∷ rest) x best) e y in
-        subst (λ (b : Stretch). Nearest (rangesAt s start n) rest x b) (sym eb) (nearest-next (rangesAt s start n) rest x lo hi best z)
+        subst (λ (b : Stretch). Nearest (rangesAt s start n) rest x b) (sym eb) (nearest-next (rangesAt s start n) rest (rangeRecord s at) x best other y f)
 
-    pub nearest-done : n ≤ i → FirstOf (rangesAt s start n) x best
+    pub nearest-done : n ≤ i → FirstOf (nextIn (rangesAt s start n)) x best
     unfolding rows nextIn
     nearest-done h =
         let y : nextIn (rangesAt s start n) x ≡ min (best .first) (nextIn (rangesAt s at 0) x) = near .first ∙ ap (λ (m : ℕ). min (best .first) (nextIn (rangesAt s at m) x)) (none-left n i h) in
@@ -311,15 +304,29 @@ module _ (s : List ℕ) (start n x : ℕ) where
 
 -- ---- the nearer of two
 
-module _ (best : Stretch) (lo hi x from : ℕ) (e : from ≡ max lo x) where
-  abbrev choice : Bool → ℕ → Stretch
-  choice b from = cond b (record { first = from; last = hi }) best
+module _ (best other : Stretch) where
+  pub nearer-other : other .first < best .first → other ≡ nearerOf best other
+  nearer-other h = ap (λ (b : Bool). cond b other best) (sym (lt-ltb (other .first) (best .first) h))
 
-  pub nearer-other : (leb x hi && ltb from (best .first)) ≡ true → record { first = from; last = hi } ≡ nearerOf best lo hi x
-  nearer-other t = ap (λ (b : Bool). choice b from) (sym t) ∙ ap (λ (y : ℕ). choice (leb x hi && ltb y (best .first)) y) e
+  pub nearer-kept : best .first ≤ other .first → best ≡ nearerOf best other
+  nearer-kept h = ap (λ (b : Bool). cond b other best) (sym (le-ltb (other .first) (best .first) h))
 
-  pub nearer-kept : (leb x hi && ltb from (best .first)) ≡ false → best ≡ nearerOf best lo hi x
-  nearer-kept t = ap (λ (b : Bool). choice b from) (sym t) ∙ ap (λ (y : ℕ). choice (leb x hi && ltb y (best .first)) y) e
+-- ---- the first values of one range
+
+pub span-first : (s : List ℕ) (at x lo hi : ℕ) (r : Stretch) → rangeRecord s at ≡ span lo hi → r .first ≡ nextInRange (span lo hi) x → r .last ≡ hi → FirstOf (nextInRange (rangeRecord s at)) x r
+span-first s at x lo hi r e f l = subst (λ (q : Range). FirstOf (nextInRange q) x r) (sym e) (record { first = f; row = row })
+  where
+    from-low : (b : Bool) → leb x hi ≡ b → (y : ℕ) → r .first ≤ y → y < noValue → lo ≤ y
+    from-low true t y a c = omega (arith, f, span-next lo hi x (leb-true x hi t))
+    from-low false t y a c = absurd (omega (arith, f, span-past lo hi x (leb-false x hi t)))
+
+    row : (y : ℕ) → r .first ≤ y → y ≤ r .last → y < noValue → nextInRange (span lo hi) y ≤ y
+    row y a b c = omega (arith, span-next lo hi y (omega arith), from-low (leb x hi) refl y a c)
+
+pub pattern-first : (s : List ℕ) (at x a b : ℕ) (r : Stretch) → (byte s at ≡ 0 → ⊥) → a ≡ u64 s (at + 1) → b ≡ u64 s (at + 9) → r .first ≡ nextInRange (pattern a b) x → r .last ≡ 0
+    → FirstOf (nextInRange (rangeRecord s at)) x r
+pattern-first s at x a b r e ea eb f l =
+    subst (λ (q : Range). FirstOf (nextInRange q) x r) (sym (pattern-record s at e ∙ ap₂ pattern (sym ea) (sym eb))) (record { first = f; row = λ y p q c. absurd (omega arith) })
 
 -- ---- spans that rise have been counted
 

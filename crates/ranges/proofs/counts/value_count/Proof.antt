@@ -1,8 +1,8 @@
 use Rattle.model.specs.Raw.{rangesAt}
-use Rattle.limits.proofs.SpanLaws.{rising-found}
+use Rattle.ranges.proofs.CountLaws.{rising-found}
 use borrow.Author.Needs.{needs}
-use Rattle.limits.proofs.values.value_count.Statement.{statement}
-use Rattle.limits.proofs.values.value_count.Tie as tie
+use Rattle.ranges.proofs.counts.value_count.Statement.{statement}
+use Rattle.ranges.proofs.counts.value_count.Tie as tie
 
 rising-count-requires : tie.Need-rising-count-requires
 rising-count-requires c κs = search needs
