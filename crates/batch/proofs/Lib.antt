@@ -1,6 +1,3 @@
-pub mod SampledWords
-pub mod Keeps
-pub mod TurnLaws
 pub mod Illegals
 pub mod PreparedLaws
 pub mod TopLaws

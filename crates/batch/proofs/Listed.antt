@@ -13,9 +13,9 @@ use Rattle.model.specs.Format.{numberOf, Outcome, rejected, decoded, decode, ta
 use Rattle.model.specs.Register.{illegalTotal, Call, sample, askGroup, Answer, nothing, Response, Effect, callTests, accept, perform, onTable, onOutcome, call}
 use Rattle.model.specs.Reference.{registerResponses, registerAfter}
 use Rattle.model.proofs.Sections.{some-number}
-use Rattle.batch.specs.Batch.{Batch, ended, sampleSize, andThen, inTurn, batchFrom, batch}
+use Rattle.turns.specs.Batch.{Batch, ended, sampleSize, andThen, inTurn, batchFrom, batch}
 use Rattle.batch.specs.Calls.{cutCalls, callsFrom, firstCalls, answered, beyond, responsesRead, batchResponses}
-use Rattle.batch.proofs.TurnLaws.{call-is, rest-kept, report-long, then-refused}
+use Rattle.turns.proofs.TurnLaws.{call-is, rest-kept, report-long, then-refused}
 
 -- the batch b stands for the first of the calls cs, k words for each report
 record Listed (s w : List ℕ) (k : ℕ) (cs : List Call) (r : List ℕ) (b : Batch) : Type 0 where

@@ -18,10 +18,10 @@ use Rattle.table.specs.Check.{factsOf}
 use Rattle.refusals.specs.Refusals.{RegisterRefusal}
 use Rattle.refusals.proofs.RefusalLaws.{after-stop, after-on}
 use Rattle.refusals.proofs.CallLaws.{table-known, tests-refuse}
-use Rattle.batch.specs.declared.Taken.{Taken}
-use Rattle.batch.specs.Batch.{Batch, ended, sampleSize, andThen}
-use Rattle.batch.specs.Turns.{Done, Took, turns}
-use Rattle.batch.proofs.TurnLaws.{turns-none, turns-one}
+use Rattle.turns.specs.declared.Taken.{Taken}
+use Rattle.turns.specs.Batch.{Batch, ended, sampleSize, andThen}
+use Rattle.turns.specs.Turns.{Done, Took, turns}
+use Rattle.turns.proofs.TurnLaws.{turns-none, turns-one}
 
 -- the first test that fails gives its number
 fails : (b : Bool) (rest : List (Bool × ℕ)) → b ≡ false → firstFailed ((b, 12) ∷ rest) ≡ 12

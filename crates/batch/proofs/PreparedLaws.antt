@@ -1,25 +1,20 @@
--- What is worked out of a table once: what it tells of the table, and the room that it needs.
+-- The room that what is worked out of a table needs.
 -- Assumes nothing.
-use mathlib.Core.Path.{_≡_, ap, _∙_}
+use mathlib.Core.Path.{_≡_}
 use mathlib.Core.Bool.{true, _&&_}
 use mathlib.Core.List.{List}
-use Prim.Native.Nat.{ℕ, _+_, _*_, _≤_}
+use Prim.Native.Nat.{ℕ, _+_, _≤_}
 use native.Mathlib.Omega.{arith}
 use lib.Dec.{leb}
 use lib.ListN.{length, getD}
 use borrow.Author.Tests.{leb-true}
 use Rattle.model.proofs.Booleans.{and-left, and-right}
-use Rattle.model.specs.Format.{accepted, decode, decoded, tableOf}
-use Rattle.model.specs.Register.{pointTotal, illegalTotal}
+use Rattle.model.specs.Format.{accepted, tableOf}
 use Rattle.model.proofs.RawExact.{few-points}
 use Rattle.layout.specs.Places.{layoutOf}
-use Rattle.lists.specs.Lists.{illegalsAt}
-use Rattle.samples.specs.Prepared.{Prepared}
 use Rattle.lists.proofs.SizeLaws.{illegals-most, lists-size, lists-most}
 use Rattle.runs.specs.Rows.{sequenceRows}
 use Rattle.runs.proofs.RowSizes.{rows-few, rows-counted}
-use Rattle.layout.proofs.PlaceLaws.{points-total}
-use Rattle.refusals.proofs.CallLaws.{known-accepted}
 use Rattle.pieces.specs.Plan.{planNeed}
 use Rattle.pieces.proofs.PlanTurns.{plan-need}
 use Rattle.sampling.specs.declared.Index.{Index}
@@ -27,18 +22,8 @@ use Rattle.sampling.specs.Index.{Indexed}
 use Rattle.sampling.proofs.Joins.{plan-within, start-few, both-within}
 use Rattle.samples.proofs.ReportLaws.{illegal-many}
 use Rattle.places.specs.Places.{illegalPlaces}
-use Rattle.batch.specs.Turns.{Sized, roomFor}
+use Rattle.batch.specs.Sizes.{Sized, roomFor}
 use Rattle.batch.proofs.Illegals.{few-illegals}
-
--- the points by the table's bytes, the illegal counters by the lists
-pub counted : (s plan lists : List ℕ) → decode s ≡ decoded (tableOf s) → Prepared (tableOf s) plan lists → (n : ℕ) → n ≡ layoutOf s .«point_count» → (k : ℕ) → k ≡ getD lists (81 + 514 * n) 0
-    → (n ≡ pointTotal (tableOf s)) × (k ≡ illegalTotal (tableOf s))
-counted s plan lists known h n e k g =
-    let m = points-total s (known-accepted s known) n e in
-    let at : 81 + 514 * n ≡ illegalsAt (pointTotal (tableOf s)) = omega (arith, m) in
-    (m, g ∙ ap (λ (i : ℕ). getD lists i 0) at ∙ h .ready .planned .illegals ∙ illegal-many (tableOf s))
-
--- ---- the size classes
 
 module _ (s : List ℕ) (ok : accepted s ≡ true) where
   -- the places of the illegal counters are few

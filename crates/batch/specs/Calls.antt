@@ -6,7 +6,7 @@ use lib.ListN.{length, take, drop}
 use Rattle.model.specs.Table.{Table}
 use Rattle.model.specs.Format.{Outcome, rejected, decoded, decode}
 use Rattle.model.specs.Register.{illegalTotal, Call, sample, nothing, Response}
-use Rattle.batch.specs.Batch.{sampleSize}
+use Rattle.turns.specs.Batch.{sampleSize}
 
 -- ---- the calls
 

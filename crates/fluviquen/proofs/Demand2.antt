@@ -17,7 +17,7 @@ use Rattle.model.specs.Format.{Outcome, decoded, decode}
 use Rattle.model.specs.Register.{pointTotal, wordsNeeded, illegalTotal, flagOf, samplesOf, countsOf, unknownsOf, runsOf, sequences, nextRuns, allLengths, runStretches, sampledWords, reportWords, sampledReport, sample, askGroup, millionths, Response, Effect, longEnough, callTests, accept, perform, onTable, onOutcome, call}
 use Rattle.model.proofs.Lists.{length-keep, first-passed}
 use Rattle.model.proofs.Group.{group-figure-bound}
-use Rattle.batch.proofs.SampledWords.{newRuns, counts-are, unknowns-are, runs-are, beyond-are}
+use Rattle.turns.proofs.SampledWords.{newRuns, counts-are, unknowns-are, runs-are, beyond-are}
 use Rattle.fluviquen.proofs.Steps.{Step, step-is}
 
 -- ---- a sample

@@ -4,7 +4,7 @@ ghost use Prim.Native.Nat.{_+_, _≤_};
 ghost use lib.ListN.{length, take, drop};
 ghost use Rattle.model.specs.Register as Model;
 ghost use Rattle.table.specs.Check.{sectionStart};
-ghost use Rattle.batch.specs.Batch.{batch};
+ghost use Rattle.turns.specs.Batch.{batch};
 ghost use Rattle.fluviquen.specs.Answers.{countIn, presentIn, percentIn, millionthsIn};
 
 // The table's refusal number; the words of a register and of a report, 0 and 0 if it is refused.

@@ -7,7 +7,7 @@ use lib.ListN.{length, take, drop}
 use Rattle.model.specs.Table.{Table}
 use Rattle.model.specs.Format.{Outcome, rejected, decoded, decode}
 use Rattle.model.specs.Register.{illegalTotal, Effect, sample, call}
-use Rattle.batch.specs.Batch.{Batch, sampleSize, andThen, inTurn, batchFrom, batch}
+use Rattle.turns.specs.Batch.{Batch, sampleSize, andThen, inTurn, batchFrom, batch}
 
 turn-few : (s : List ℕ) (t : Table) (n : ℕ) (w v r : List ℕ) → inTurn s t n w v r .taken ≤ n
 unfolding inTurn

@@ -1,5 +1,5 @@
 // The entries of a log, one after the other; samples that follow one another, by blocks.
-use batch::Taken;
+use turns::Taken;
 use log::GOING;
 use log::Log;
 use log::OF_NO_KIND;
@@ -20,8 +20,8 @@ use words::bytes::read4;
 ghost use mathlib.Core.Path.{_≡_};
 ghost use Prim.Native.Nat.{_+_, _*_, _≤_, _<_};
 ghost use lib.ListN.{length};
-ghost use Rattle.batch.specs.Batch.{batch};
-ghost use Rattle.batch.specs.Turns.{Took};
+ghost use Rattle.turns.specs.Batch.{batch};
+ghost use Rattle.turns.specs.Turns.{Took};
 ghost use Rattle.log.specs.Samples.{samplesIn};
 ghost use Rattle.log.specs.Held.{Held, Onward};
 

@@ -7,9 +7,9 @@ use lib.Seq.{length-take-le}
 use borrow.Author.Needs.{needs}
 use Rattle.arrays.specs.Put.{put}
 use Rattle.arrays.proofs.PutLaws.{front-put}
-use Rattle.batch.specs.declared.Taken.{Taken}
-use Rattle.batch.specs.Batch.{batch}
-use Rattle.batch.specs.Turns.{Took}
+use Rattle.turns.specs.declared.Taken.{Taken}
+use Rattle.turns.specs.Batch.{batch}
+use Rattle.turns.specs.Turns.{Took}
 use Rattle.log.specs.Samples.{samplesIn}
 use Rattle.replay.proofs.BatchLaws.{batch-few}
 use Rattle.replay.proofs.entries.give_samples.Statement.{statement}

@@ -1,0 +1,4 @@
+pub mod SampledWords
+pub mod Keeps
+pub mod TurnLaws
+pub mod Counted
