@@ -6,7 +6,7 @@ use Rattle.figures.specs.declared.Figure.{Figure}
 use Rattle.figures.specs.declared.Figure.the-variants.{Percent, Nothing}
 use Rattle.figures.specs.declared.GroupFigure.{GroupFigure}
 use Rattle.figures.specs.declared.GroupFigure.the-variants.{Millionths, Missing}
-use Rattle.register.specs.Answers.{itemAnswer, groupAnswer}
+use Rattle.figure_calls.specs.Answers.{itemAnswer, groupAnswer}
 use Rattle.fluviquen.specs.Answers.{presentIn, percentIn, millionthsIn}
 
 pub item-present : (f : Figure) → presentOf f ≡ presentIn (itemAnswer f)

@@ -145,7 +145,7 @@ pub extern "C" fn fluviquen_item_figure(
     ensures { λ _. ⌜ now (present .exit) ≡ presentIn (Model.call (now (table .entry)) (now (reg .entry)) (Model.askItem item) .response .answer) ⌝ }
     ensures { λ _. ⌜ now (percent .exit) ≡ percentIn (Model.call (now (table .entry)) (now (reg .entry)) (Model.askItem item) .response .answer) ⌝ }
 {
-    let a = register::item_figure(table, reg, item);
+    let a = figure_calls::item_figure(table, reg, item);
     let f = a.figure;
     *present = figures::present(f);
     *percent = figures::percent_of(f);
@@ -164,7 +164,7 @@ pub extern "C" fn fluviquen_group_figure(
     ensures { λ _. ⌜ now (present .exit) ≡ presentIn (Model.call (now (table .entry)) (now (reg .entry)) Model.askGroup .response .answer) ⌝ }
     ensures { λ _. ⌜ now (millionths .exit) ≡ millionthsIn (Model.call (now (table .entry)) (now (reg .entry)) Model.askGroup .response .answer) ⌝ }
 {
-    let a = register::group_figure(table, reg);
+    let a = figure_calls::group_figure(table, reg);
     let f = a.figure;
     *present = figures::group_present(f);
     *millionths = figures::millionths_of(f);

@@ -46,7 +46,7 @@ fn say_figure(out: &mut [u8], is_there: bool, figure: u64) {
 }
 
 fn say_item(out: &mut [u8], table: &[u8], register: &[u32], item: usize, points: usize) {
-    let answer = register::item_figure(table, register, item);
+    let answer = figure_calls::item_figure(table, register, item);
     let figure = answer.figure;
     say_head(out, b"item ", item as u64);
     say_figure(out, present(figure) == 1, millionths(percent_of(figure)));
@@ -64,7 +64,7 @@ pub fn say_items(out: &mut [u8], table: &[u8], register: &[u32], items: usize, p
 }
 
 pub fn say_group(out: &mut [u8], table: &[u8], register: &[u32]) {
-    let answer = register::group_figure(table, register);
+    let answer = figure_calls::group_figure(table, register);
     let figure = answer.figure;
     say(out, b"group: ");
     say_figure(

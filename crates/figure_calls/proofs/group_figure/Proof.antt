@@ -1,11 +1,11 @@
 use mathlib.Core.Path.{sym, ap, _∙_}
 use Rattle.model.specs.Register.{Effect, callTests, accept, askGroup}
-use Rattle.register.specs.Answers.{groupAnswer}
+use Rattle.figure_calls.specs.Answers.{groupAnswer}
 use Rattle.refusals.proofs.CallLaws.{table-refuses, table-known, tests-refuse, tests-accept, known-accepted}
-use Rattle.register.proofs.FigureLaws.{known-long, group-answer}
+use Rattle.figure_calls.proofs.FigureLaws.{known-long, group-answer}
 use borrow.Author.Needs.{needs}
-use Rattle.register.proofs.group_figure.Statement.{statement}
-use Rattle.register.proofs.group_figure.Tie as tie
+use Rattle.figure_calls.proofs.group_figure.Statement.{statement}
+use Rattle.figure_calls.proofs.group_figure.Tie as tie
 
 facts-requires : tie.Need-facts-requires
 facts-requires c κs = search needs

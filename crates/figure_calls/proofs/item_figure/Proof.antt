@@ -1,12 +1,12 @@
 use mathlib.Core.Path.{sym, ap, _∙_}
 use native.Mathlib.Omega.{arith}
 use Rattle.model.specs.Register.{Effect, accept, askItem}
-use Rattle.register.specs.Answers.{itemAnswer}
+use Rattle.figure_calls.specs.Answers.{itemAnswer}
 use Rattle.refusals.proofs.CallLaws.{table-refuses, table-known, tests-refuse, tests-accept, known-accepted}
-use Rattle.register.proofs.FigureLaws.{known-long, items-known, item-answer}
+use Rattle.figure_calls.proofs.FigureLaws.{known-long, items-known, item-answer}
 use borrow.Author.Needs.{needs}
-use Rattle.register.proofs.item_figure.Statement.{statement}
-use Rattle.register.proofs.item_figure.Tie as tie
+use Rattle.figure_calls.proofs.item_figure.Statement.{statement}
+use Rattle.figure_calls.proofs.item_figure.Tie as tie
 
 facts-requires : tie.Need-facts-requires
 facts-requires c κs = search needs

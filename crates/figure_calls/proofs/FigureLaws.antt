@@ -18,7 +18,7 @@ use Rattle.layout.specs.Places.{layoutOf}
 use Rattle.layout.specs.declared.Layout.{Layout}
 use Rattle.figures.specs.Figures.{figureCase, groupCase}
 use Rattle.table.specs.declared.answer.Facts.{Facts}
-use Rattle.register.specs.Answers.{itemAnswer, groupAnswer}
+use Rattle.figure_calls.specs.Answers.{itemAnswer, groupAnswer}
 use Rattle.refusals.specs.Refusals.{Describes, wordsOf}
 use Rattle.refusals.proofs.RefusalLaws.{words-by}
 use Rattle.refusals.proofs.CallLaws.{known-accepted}
