@@ -28,10 +28,6 @@ unfolding countPlace recordCount recordsPlace
 next-section s k b r e h = h ∙ ap (λ (x : Section). sectionFrom s (x .at + x .count * getD recordSizes k 0)) e
 
 -- the first section begins the table
-pub points-first : (s : List ℕ) → layoutOf s .points ≡ 2
-unfolding layoutOf countPlace recordsPlace
-points-first s = refl
-
 pub point-count-first : (s : List ℕ) → layoutOf s .«point_count» ≡ u16 s 0
 unfolding layoutOf countPlace recordCount
 point-count-first s = refl
