@@ -5,6 +5,7 @@ use layout::layout_of;
 use origins::put_origins;
 use pieces::build::put_plan;
 use pieces::plan::put_has;
+use spans::part::own_parts;
 ghost use mathlib.Core.Path.{_≡_};
 ghost use mathlib.Core.Bool.{true};
 ghost use Prim.Native.Nat.{_+_, _*_, _≤_};
@@ -23,8 +24,9 @@ pub fn put_first(plan: &mut [u64], lists: &mut [u16], t: &[u8])
     requires { ⌜ (accepted (now t) ≡ true) × (planNeed (tableOf (now t)) ≤ length (now plan)) × (64 + 256 * pointTotal (tableOf (now t)) ≤ length (now lists)) ⌝ }
     ensures { λ _. ⌜ ValuesPlan (tableOf (now (t .entry))) (now (plan .exit)) (now (lists .exit)) × Origins (tableOf (now (t .entry))) (drop 64 (now (lists .exit))) ⌝ }
 {
-    put_plan(plan, &mut lists[..64], t);
-    put_origins(&mut lists[64..], t);
+    let parts = own_parts(t);
+    put_plan(plan, &mut lists[..64], t, parts);
+    put_origins(&mut lists[64..], t, parts);
 }
 
 // In arrays that have room for the plan, and for its bounds and the origins.
