@@ -156,14 +156,7 @@ fn put_largest(plan: &mut [u64], bounds: &mut [u16], t: &[u8], parts: Parts)
 }
 
 // The same for a table of n ranges, by the first class from `class` on that has room. It calls itself, so that a class's arrays stay out of the others' frames.
-fn put_sized(
-    plan: &mut [u64],
-    bounds: &mut [u16],
-    t: &[u8],
-    n: usize,
-    parts: Parts,
-    class: usize,
-)
+fn put_sized(plan: &mut [u64], bounds: &mut [u16], t: &[u8], n: usize, parts: Parts, class: usize)
     requires { ⌜ (accepted (now t) ≡ true) × (planNeed (tableOf (now t)) ≤ length (now plan)) × (49 ≤ length (now bounds)) × (n ≡ recordCount (now t) 2) × OwnParts (now t) parts ⌝ }
     ensures { λ _. ⌜ ValuesPlan (tableOf (now (t .entry))) (now (plan .exit)) (now (bounds .exit)) × (length (now (plan .exit)) ≡ length (now (plan .entry))) × (length (now (bounds .exit)) ≡ length (now (bounds .entry))) ⌝ }
 {
