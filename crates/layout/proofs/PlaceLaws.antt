@@ -1,6 +1,6 @@
 -- A section stands where the records of the one before it end.
 -- Assumes nothing.
-use Prim.Native.Nat.{ℕ, suc, _+_, _*_, _≤_}
+use Prim.Native.Nat.{ℕ, suc, _+_, _*_, _≤_, _<_}
 use mathlib.Core.Path.{_≡_, refl, sym, ap, _∙_}
 use mathlib.Core.Bool.{true}
 use mathlib.Core.List.{List}
@@ -11,7 +11,7 @@ use Rattle.model.specs.Format.{recordSizes, u16, accepted, tableOf}
 use Rattle.model.specs.Register.{pointTotal}
 use Rattle.model.specs.Raw.{countPlace, recordCount, recordsPlace}
 use Rattle.model.proofs.RawExact.{many-points}
-use Rattle.layout.specs.Places.{sectionFrom, sectionOf, Near, Small, SmallBins, layoutOf, binSectionsOf}
+use Rattle.layout.specs.Places.{sectionFrom, sectionOf, Near, Small, SmallBins, layoutOf, binSectionsOf, transitionSectionOf}
 use Rattle.layout.specs.declared.Section.{Section}
 use Rattle.layout.specs.declared.Layout.{Layout}
 use Rattle.layout.specs.declared.BinSections.{BinSections}
@@ -28,10 +28,6 @@ unfolding countPlace recordCount recordsPlace
 next-section s k b r e h = h ∙ ap (λ (x : Section). sectionFrom s (x .at + x .count * getD recordSizes k 0)) e
 
 -- the first section begins the table
-pub points-first : (s : List ℕ) → layoutOf s .points ≡ 2
-unfolding layoutOf countPlace recordsPlace
-points-first s = refl
-
 pub point-count-first : (s : List ℕ) → layoutOf s .«point_count» ≡ u16 s 0
 unfolding layoutOf countPlace recordCount
 point-count-first s = refl
@@ -52,19 +48,25 @@ binsWith b c = record {
 module _ {s : List ℕ} {a b c : Section} (na : Near s 0 a)
     (nb : Near s (a .at + a .count * 11) b)
     (nc : Near s (b .at + b .count * 8) c) where
+  bins-at : b ≡ sectionOf s 1
+  bins-at = next-section s 0 a b (na .is ∙ first-section s) (nb .is)
+
+  ranges-at : c ≡ sectionOf s 2
+  ranges-at = next-section s 1 b c bins-at (nc .is)
+
   bins-laid-out : binsWith b c ≡ binSectionsOf s
   unfolding layoutOf
-  bins-laid-out =
-      let ea : a ≡ sectionOf s 0 = na .is ∙ first-section s in
-      let eb : b ≡ sectionOf s 1 = next-section s 0 a b ea (nb .is) in
-      let ec : c ≡ sectionOf s 2 = next-section s 1 b c eb (nc .is) in
-      rw (eb, ec)
+  bins-laid-out = rw (bins-at, ranges-at)
 
   bins-laid-small : SmallBins (binsWith b c)
   bins-laid-small = record { bins = omega arith; bin-count = omega arith; ranges = omega arith; range-count = omega arith }
 
   pub bins-laid : (binsWith b c ≡ binSectionsOf s) × SmallBins (binsWith b c)
   bins-laid = (bins-laid-out, bins-laid-small)
+
+  pub transitions-laid : {d : Section} → Near s (c .at + c .count * 17) d → (d ≡ transitionSectionOf s) × ((d .at < 16777216) × (d .count < 65536))
+  unfolding layoutOf
+  transitions-laid {d} nd = (next-section s 2 c d ranges-at (nd .is), (omega arith, omega arith))
 
 -- the ten sections, each after the one before it
 abbrev pub layoutWith : Section → Section → Section → Section → Section → Section → Section → Section → Section → Section → Layout

@@ -55,6 +55,10 @@ binSectionsOf s = record {
   «range_count» = layoutOf s .«range_count»;
 }
 
+-- and the transition bins
+abbrev pub transitionSectionOf : List ℕ → Section
+transitionSectionOf s = record { at = layoutOf s .transitions; count = layoutOf s .«transition_count» }
+
 -- every place is below 2^24, every count below 2^16
 pub record Small (l : Layout) : Type 0 where
   pub points : l .points < 16777216

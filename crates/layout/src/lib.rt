@@ -2,7 +2,7 @@
 use words::bytes::read2;
 ghost use mathlib.Core.Path.{_≡_};
 ghost use Prim.Native.Nat.{_+_, _*_, _≤_, _<_};
-ghost use Rattle.layout.specs.Places.{layoutOf, binSectionsOf, Near, Small, SmallBins};
+ghost use Rattle.layout.specs.Places.{layoutOf, binSectionsOf, transitionSectionOf, Near, Small, SmallBins};
 
 pub struct Section {
     pub at: usize,
@@ -80,6 +80,17 @@ pub fn bin_sections(t: &[u8]) -> BinSections
         ranges: c.at,
         range_count: c.count,
     }
+}
+
+// Where the transition bins stand, and how many there are.
+pub fn transition_section(t: &[u8]) -> Section
+    ensures { λ r. ⌜ r ≡ transitionSectionOf (now (t .entry)) ⌝ }
+    ensures { λ r. ⌜ (r .at < 16777216) × (r .count < 65536) ⌝ }
+{
+    let a = section_at(t, 0);
+    let b = next(t, a, 11);
+    let c = next(t, b, 8);
+    next(t, c, 17)
 }
 
 pub fn layout_of(t: &[u8]) -> Layout

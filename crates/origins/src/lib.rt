@@ -3,7 +3,7 @@ use crate::listed::put_point_origins;
 use layout::Layout;
 use layout::layout_of;
 use spans::collects::Bins;
-use spans::part::own_parts;
+use spans::part::Parts;
 use spans::part::part_of;
 ghost use mathlib.Core.Path.{_≡_};
 ghost use mathlib.Core.Bool.{true};
@@ -13,7 +13,7 @@ ghost use lib.ListN.{length};
 ghost use Rattle.model.specs.Format.{accepted, tableOf};
 ghost use Rattle.model.specs.Register.{pointTotal};
 ghost use Rattle.layout.specs.Places.{layoutOf, Small};
-ghost use Rattle.spans.specs.Part.{OwnBins};
+ghost use Rattle.spans.specs.Part.{OwnBins, OwnParts};
 ghost use Rattle.arrays.specs.Put.{put};
 ghost use Rattle.arrays.specs.Flat.{covers, origin, Origins};
 
@@ -27,14 +27,13 @@ fn put_origins_at(out: &mut [u16], t: &[u8], l: Layout, own: Bins, p: usize)
     put_point_origins(out, 256 * p, t, l, own, p as u8);
 }
 
-// The value bin that each cover bin comes of: those of point p stand from 256 p on.
-pub fn put_origins(origins: &mut [u16], t: &[u8])
-    requires { ⌜ (accepted (now t) ≡ true) × (256 * pointTotal (tableOf (now t)) ≤ length (now origins)) ⌝ }
+// The value bin that each cover bin comes of: those of point p, whose value bins are those of `parts`, stand from 256 p on.
+pub fn put_origins(origins: &mut [u16], t: &[u8], parts: Parts)
+    requires { ⌜ (accepted (now t) ≡ true) × (256 * pointTotal (tableOf (now t)) ≤ length (now origins)) × OwnParts (now t) parts ⌝ }
     ensures { λ _. ⌜ Origins (tableOf (now (t .entry))) (now (origins .exit)) × (length (now (origins .exit)) ≡ length (now (origins .entry))) ⌝ }
 {
     let l = layout_of(t);
     let n = l.point_count;
-    let parts = own_parts(t);
     let mut p = 0;
     while p < n {
         let own = part_of(parts, p);

@@ -15,7 +15,7 @@ use Rattle.model.specs.Values.{lowest}
 use Rattle.model.specs.Ranges.{sizes}
 use Rattle.model.specs.Counters.{noCoverBin, pointAt, valueBinAt, distributed, pointCounters}
 use Rattle.model.specs.Format.{byte, u16, formFrom, kindFrom, binRules, BinHead, allowsPatterns, pointRecord, decode, decoded, accepted, tableOf}
-use Rattle.model.specs.Raw.{rows, rangesAt, binAt, binsAt, recordsPlace, recordCount}
+use Rattle.model.specs.Raw.{rows, rangesAt, binAt, binsAt, countPlace, recordsPlace, recordCount}
 use Rattle.model.specs.Register.{pointTotal}
 use Rattle.model.proofs.Readers.{All, all-both, all-map}
 use Rattle.model.proofs.Booleans.{false-true, and-left, and-right}
@@ -29,8 +29,8 @@ use Rattle.model.proofs.TableExact.{point-at, divisible}
 use Rattle.model.proofs.Limits.{covers-fewer}
 use Rattle.ranges.specs.Types.{Wide}
 use Rattle.arrays.specs.Flat.{covers}
-use Rattle.layout.specs.Places.{layoutOf}
-use Rattle.layout.specs.declared.Layout.{Layout}
+use Rattle.layout.specs.Places.{layoutOf, transitionSectionOf}
+use Rattle.layout.specs.declared.Section.{Section}
 use Rattle.values.specs.Points.{Near}
 use Rattle.values.proofs.PointExact.{point-raw, few-counters, bins-raw}
 use Rattle.values.proofs.Ready.{all-near, wide, some-auto}
@@ -232,7 +232,7 @@ module _ (s : List ℕ) (ok : accepted s ≡ true) (p : ℕ) (inside : p < point
       few-own : coverListed T p ≤ 1024
       few-own = omega (arith, listed-apart T p, point-listed s ok p, ranges-most s ok)
 
-  -- ---- by places
+  -- ---- by places: the points' records begin at byte 2
 
   abbrev low-raw : ℕ
   low-raw = lowest (pointRecord s (recordsPlace s 0 + 11 * p))
@@ -269,41 +269,38 @@ module _ (s : List ℕ) (ok : accepted s ≡ true) (p : ℕ) (inside : p < point
       subst (λ (bs : List ValueBin). ownListed s p (recordsPlace s 1) (recordCount s 1) ≤ sumOf (λ b. cond (eqb (b .point) p) (length (b .ranges)) 0) bs) (sym (bins-raw s T e p inside))
       (own-listed-fewer s p (recordsPlace s 1) (recordsPlace s 2) (recordCount s 1))
 
-  module _ (l : Layout) (el : l ≡ layoutOf s) where
-    pub near-at : (b q m : ℕ) → b < 1000000000 → q < 1000000000 → m ≤ 512 → Near (l .points + 11 * p) b q m (l .transitions) (l .«transition_count»)
-    unfolding layoutOf
-    near-at b q m hb hq hm =
-        let near = subst (λ (x : Layout). Near (x .points + 11 * p) (x .bins) (x .ranges) (x .«bin_count») (x .transitions) (x .«transition_count»)) (sym el) (all-near s T e p inside) in
+  pub wide-at : Wide s (2 + 11 * p)
+  unfolding countPlace recordsPlace
+  wide-at = wide s T e p inside
+
+  pub auto-at : 1 ≤ u16 s (2 + 11 * p + 9)
+  unfolding countPlace recordsPlace
+  auto-at = some-auto s T e p inside
+
+  module _ (b q m : ℕ) (o : OwnPart s p b q m) where
+    pub fits-at : Fits s (lowest (pointRecord s (2 + 11 * p))) p b q m
+    unfolding countPlace recordsPlace
+    fits-at = part-fits s p (recordsPlace s 1) (recordsPlace s 2) (recordCount s 1) b q m o (lowest (pointRecord s (recordsPlace s 0 + 11 * p))) fits-raw
+
+    pub listed-at : ownListed s p b m ≤ rangesListed T p
+    listed-at = omega (arith, part-listed s p (recordsPlace s 1) (recordsPlace s 2) (recordCount s 1) b q m o, listed-raw)
+
+    pub room-at : (at : ℕ) (x : List ℕ) → at + 7 * (rangesListed T p + 1) ≤ length x → Room s (lowest (pointRecord s (2 + 11 * p))) p b q m at x
+    unfolding countPlace recordsPlace
+    room-at at x h =
+        part-room s p (recordsPlace s 1) (recordsPlace s 2) (recordCount s 1) b q m o (lowest (pointRecord s (recordsPlace s 0 + 11 * p))) at x (room-raw at x h)
+
+  module _ (l : Section) (el : l ≡ transitionSectionOf s) (b q m : ℕ) where
+    pub near-at : b < 1000000000 → q < 1000000000 → m ≤ 512 → Near (2 + 11 * p) b q m (l .at) (l .count)
+    unfolding layoutOf countPlace recordsPlace
+    near-at hb hq hm =
+        let near = subst (λ (x : Section). Near (2 + 11 * p) (recordsPlace s 1) (recordsPlace s 2) (recordCount s 1) (x .at) (x .count)) (sym el) (all-near s T e p inside) in
         record { point-near = near .point-near; bins-near = hb; ranges-near = hq; few-bins = hm; transitions-near = near .transitions-near; few-transitions = near .few-transitions }
 
-    pub wide-at : Wide s (l .points + 11 * p)
-    unfolding layoutOf
-    wide-at = subst (λ (x : Layout). Wide s (x .points + 11 * p)) (sym el) (wide s T e p inside)
-
-    pub auto-at : 1 ≤ u16 s (l .points + 11 * p + 9)
-    unfolding layoutOf
-    auto-at = subst (λ (x : Layout). 1 ≤ u16 s (x .points + 11 * p + 9)) (sym el) (some-auto s T e p inside)
-
-    module _ (b q m : ℕ) (o : OwnPart s p b q m) where
-      pub fits-at : Fits s (lowest (pointRecord s (l .points + 11 * p))) p b q m
-      unfolding layoutOf
-      fits-at =
-          subst (λ (x : Layout). Fits s (lowest (pointRecord s (x .points + 11 * p))) p b q m) (sym el)
-          (part-fits s p (recordsPlace s 1) (recordsPlace s 2) (recordCount s 1) b q m o (lowest (pointRecord s (recordsPlace s 0 + 11 * p))) fits-raw)
-
-      pub listed-at : ownListed s p b m ≤ rangesListed T p
-      listed-at = omega (arith, part-listed s p (recordsPlace s 1) (recordsPlace s 2) (recordCount s 1) b q m o, listed-raw)
-
-      pub room-at : (at : ℕ) (x : List ℕ) → at + 7 * (rangesListed T p + 1) ≤ length x → Room s (lowest (pointRecord s (l .points + 11 * p))) p b q m at x
-      unfolding layoutOf
-      room-at at x h =
-          subst (λ (z : Layout). Room s (lowest (pointRecord s (z .points + 11 * p))) p b q m at x) (sym el)
-          (part-room s p (recordsPlace s 1) (recordsPlace s 2) (recordCount s 1) b q m o (lowest (pointRecord s (recordsPlace s 0 + 11 * p))) at x (room-raw at x h))
-
-      pub rows-at : (v x : List ℕ) (at n k : ℕ) → Planned (sourcesAt s p (l .points + 11 * p) b q m (l .transitions) (l .«transition_count»)) v x at n k
-          → RowsOf (tableOf s) p (planRowsAt x at n) k × (n ≤ 1025) × (k ≤ 256) × (take at x ≡ take at v)
-      unfolding layoutOf
-      rows-at v x at n k plan =
-          rows-of v x at n k (subst (λ (ss : List Source). Planned ss v x at n k)
-          (ap (λ (z : Layout). sourcesAt s p (z .points + 11 * p) b q m (z .transitions) (z .«transition_count»)) el
-          ∙ part-sources s p (recordsPlace s 1) (recordsPlace s 2) (recordCount s 1) b q m o (recordsPlace s 0 + 11 * p) (recordsPlace s 3) (recordCount s 3) ∙ sym (sources-raw s T e p inside)) plan)
+    pub rows-at : OwnPart s p b q m → (v x : List ℕ) (at n k : ℕ) → Planned (sourcesAt s p (2 + 11 * p) b q m (l .at) (l .count)) v x at n k
+        → RowsOf (tableOf s) p (planRowsAt x at n) k × (n ≤ 1025) × (k ≤ 256) × (take at x ≡ take at v)
+    unfolding layoutOf countPlace recordsPlace
+    rows-at o v x at n k plan =
+        rows-of v x at n k (subst (λ (ss : List Source). Planned ss v x at n k)
+        (ap (λ (z : Section). sourcesAt s p (2 + 11 * p) b q m (z .at) (z .count)) el
+        ∙ part-sources s p (recordsPlace s 1) (recordsPlace s 2) (recordCount s 1) b q m o (recordsPlace s 0 + 11 * p) (recordsPlace s 3) (recordCount s 3) ∙ sym (sources-raw s T e p inside)) plan)

@@ -6,7 +6,7 @@ use parts::points::Built;
 use parts::points::put_rows;
 use spans::collects::Bins;
 use spans::collects::spans_of;
-use spans::part::own_parts;
+use spans::part::Parts;
 use spans::part::part_of;
 use words::bytes::read2;
 ghost use mathlib.Core.Path.{_≡_};
@@ -18,7 +18,7 @@ ghost use Rattle.model.specs.Raw.{recordCount};
 ghost use Rattle.model.specs.Register.{pointTotal};
 ghost use Rattle.arrays.specs.Put.{put};
 ghost use Rattle.spans.specs.Point.{SpansOf, rangesListed, excludedListed};
-ghost use Rattle.spans.specs.Part.{OwnPart, OwnBins};
+ghost use Rattle.spans.specs.Part.{OwnPart, OwnBins, OwnParts};
 ghost use Rattle.parts.specs.Words.{planRowsAt};
 ghost use Rattle.parts.specs.Point.{RowsOf};
 ghost use Rattle.pieces.specs.Plan.{PointPlan, ValuesPlan, pointNeed, planNeed};
@@ -96,14 +96,20 @@ fn put_point(
     put_by_rows(plan, b, &sorted[..k], t, next)
 }
 
-// The plan of all points. The other arrays are room for a point's spans.
-fn put_all(plan: &mut [u64], bounds: &mut [u16], room: &mut [u64], sorted: &mut [u64], t: &[u8])
-    requires { ⌜ (accepted (now t) ≡ true) × (planNeed (tableOf (now t)) ≤ length (now plan)) × (49 ≤ length (now bounds)) ⌝ }
+// The plan of all points, whose value bins are those of `parts`. The other arrays are room for a point's spans.
+fn put_all(
+    plan: &mut [u64],
+    bounds: &mut [u16],
+    room: &mut [u64],
+    sorted: &mut [u64],
+    t: &[u8],
+    parts: Parts,
+)
+    requires { ⌜ (accepted (now t) ≡ true) × (planNeed (tableOf (now t)) ≤ length (now plan)) × (49 ≤ length (now bounds)) × OwnParts (now t) parts ⌝ }
     requires { ⌜ (recordCount (now t) 2 ≤ length (now room)) × (length (now room) ≤ length (now sorted)) ⌝ }
     ensures { λ _. ⌜ ValuesPlan (tableOf (now (t .entry))) (now (plan .exit)) (now (bounds .exit)) × (length (now (plan .exit)) ≡ length (now (plan .entry))) × (length (now (bounds .exit)) ≡ length (now (bounds .entry))) ⌝ }
 {
     let n = read2(t, 0) as usize;
-    let parts = own_parts(t);
     bounds[0] = 0;
     let mut at = 0;
     let mut p = 0;
@@ -120,64 +126,64 @@ fn put_all(plan: &mut [u64], bounds: &mut [u16], room: &mut [u64], sorted: &mut 
 }
 
 // The same for a table of at most 64 ranges.
-fn put_small(plan: &mut [u64], bounds: &mut [u16], t: &[u8])
-    requires { ⌜ (accepted (now t) ≡ true) × (planNeed (tableOf (now t)) ≤ length (now plan)) × (49 ≤ length (now bounds)) × (recordCount (now t) 2 ≤ 64) ⌝ }
+fn put_small(plan: &mut [u64], bounds: &mut [u16], t: &[u8], parts: Parts)
+    requires { ⌜ (accepted (now t) ≡ true) × (planNeed (tableOf (now t)) ≤ length (now plan)) × (49 ≤ length (now bounds)) × (recordCount (now t) 2 ≤ 64) × OwnParts (now t) parts ⌝ }
     ensures { λ _. ⌜ ValuesPlan (tableOf (now (t .entry))) (now (plan .exit)) (now (bounds .exit)) × (length (now (plan .exit)) ≡ length (now (plan .entry))) × (length (now (bounds .exit)) ≡ length (now (bounds .entry))) ⌝ }
 {
     let mut room = [0u64; 64];
     let mut sorted = [0u64; 64];
-    put_all(plan, bounds, &mut room, &mut sorted, t);
+    put_all(plan, bounds, &mut room, &mut sorted, t, parts);
 }
 
 // The same for a table of at most 256 ranges.
-fn put_medium(plan: &mut [u64], bounds: &mut [u16], t: &[u8])
-    requires { ⌜ (accepted (now t) ≡ true) × (planNeed (tableOf (now t)) ≤ length (now plan)) × (49 ≤ length (now bounds)) × (recordCount (now t) 2 ≤ 256) ⌝ }
+fn put_medium(plan: &mut [u64], bounds: &mut [u16], t: &[u8], parts: Parts)
+    requires { ⌜ (accepted (now t) ≡ true) × (planNeed (tableOf (now t)) ≤ length (now plan)) × (49 ≤ length (now bounds)) × (recordCount (now t) 2 ≤ 256) × OwnParts (now t) parts ⌝ }
     ensures { λ _. ⌜ ValuesPlan (tableOf (now (t .entry))) (now (plan .exit)) (now (bounds .exit)) × (length (now (plan .exit)) ≡ length (now (plan .entry))) × (length (now (bounds .exit)) ≡ length (now (bounds .entry))) ⌝ }
 {
     let mut room = [0u64; 256];
     let mut sorted = [0u64; 256];
-    put_all(plan, bounds, &mut room, &mut sorted, t);
+    put_all(plan, bounds, &mut room, &mut sorted, t, parts);
 }
 
 // The same for the largest table.
-fn put_largest(plan: &mut [u64], bounds: &mut [u16], t: &[u8])
-    requires { ⌜ (accepted (now t) ≡ true) × (planNeed (tableOf (now t)) ≤ length (now plan)) × (49 ≤ length (now bounds)) × (recordCount (now t) 2 ≤ 1024) ⌝ }
+fn put_largest(plan: &mut [u64], bounds: &mut [u16], t: &[u8], parts: Parts)
+    requires { ⌜ (accepted (now t) ≡ true) × (planNeed (tableOf (now t)) ≤ length (now plan)) × (49 ≤ length (now bounds)) × (recordCount (now t) 2 ≤ 1024) × OwnParts (now t) parts ⌝ }
     ensures { λ _. ⌜ ValuesPlan (tableOf (now (t .entry))) (now (plan .exit)) (now (bounds .exit)) × (length (now (plan .exit)) ≡ length (now (plan .entry))) × (length (now (bounds .exit)) ≡ length (now (bounds .entry))) ⌝ }
 {
     let mut room = [0u64; 1024];
     let mut sorted = [0u64; 1024];
-    put_all(plan, bounds, &mut room, &mut sorted, t);
+    put_all(plan, bounds, &mut room, &mut sorted, t, parts);
 }
 
 // The same for a table of n ranges, by the first class from `class` on that has room. It calls itself, so that a class's arrays stay out of the others' frames.
-fn put_sized(plan: &mut [u64], bounds: &mut [u16], t: &[u8], n: usize, class: usize)
-    requires { ⌜ (accepted (now t) ≡ true) × (planNeed (tableOf (now t)) ≤ length (now plan)) × (49 ≤ length (now bounds)) × (n ≡ recordCount (now t) 2) ⌝ }
+fn put_sized(plan: &mut [u64], bounds: &mut [u16], t: &[u8], n: usize, parts: Parts, class: usize)
+    requires { ⌜ (accepted (now t) ≡ true) × (planNeed (tableOf (now t)) ≤ length (now plan)) × (49 ≤ length (now bounds)) × (n ≡ recordCount (now t) 2) × OwnParts (now t) parts ⌝ }
     ensures { λ _. ⌜ ValuesPlan (tableOf (now (t .entry))) (now (plan .exit)) (now (bounds .exit)) × (length (now (plan .exit)) ≡ length (now (plan .entry))) × (length (now (bounds .exit)) ≡ length (now (bounds .entry))) ⌝ }
 {
     if class == 0 {
         if n <= 64 {
-            put_small(plan, bounds, t);
+            put_small(plan, bounds, t, parts);
             return;
         }
-        put_sized(plan, bounds, t, n, 1);
+        put_sized(plan, bounds, t, n, parts, 1);
         return;
     }
     if class == 1 {
         if n <= 256 {
-            put_medium(plan, bounds, t);
+            put_medium(plan, bounds, t, parts);
             return;
         }
-        put_sized(plan, bounds, t, n, 2);
+        put_sized(plan, bounds, t, n, parts, 2);
         return;
     }
-    put_largest(plan, bounds, t);
+    put_largest(plan, bounds, t, parts);
 }
 
-// The plan of all points: the rows of point p from bound 3 p on, its spans from bound 3 p + 1 on, its pieces from bound 3 p + 2 to bound 3 p + 3.
-pub fn put_plan(plan: &mut [u64], bounds: &mut [u16], t: &[u8])
-    requires { ⌜ (accepted (now t) ≡ true) × (planNeed (tableOf (now t)) ≤ length (now plan)) × (49 ≤ length (now bounds)) ⌝ }
+// The plan of all points, whose value bins are those of `parts`: the rows of point p from bound 3 p on, its spans from bound 3 p + 1 on, its pieces from bound 3 p + 2 to bound 3 p + 3.
+pub fn put_plan(plan: &mut [u64], bounds: &mut [u16], t: &[u8], parts: Parts)
+    requires { ⌜ (accepted (now t) ≡ true) × (planNeed (tableOf (now t)) ≤ length (now plan)) × (49 ≤ length (now bounds)) × OwnParts (now t) parts ⌝ }
     ensures { λ _. ⌜ ValuesPlan (tableOf (now (t .entry))) (now (plan .exit)) (now (bounds .exit)) × (length (now (plan .exit)) ≡ length (now (plan .entry))) × (length (now (bounds .exit)) ≡ length (now (bounds .entry))) ⌝ }
 {
     let l = bin_sections(t);
-    put_sized(plan, bounds, t, l.range_count, 0);
+    put_sized(plan, bounds, t, l.range_count, parts, 0);
 }

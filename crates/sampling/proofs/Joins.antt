@@ -18,6 +18,7 @@ use Rattle.model.specs.Counters.{Counter, pointCounters, crossCounters, counter
 use Rattle.model.specs.Sampling.{Stretches, coverHit, hits}
 use Rattle.model.specs.Figures.{inTotal, itemOf}
 use Rattle.model.specs.Format.{accepted, tableOf}
+use Rattle.model.specs.Raw.{recordCount}
 use Rattle.model.specs.Register.{pointTotal, counterTotal}
 use Rattle.model.proofs.Sections.{acceptance, accepted-decodes}
 use Rattle.model.proofs.Access.{points-access}
@@ -147,17 +148,20 @@ covers-within t zero i = omega arith
 covers-within t (suc n) i =
     omega (arith, length-append (pointCounters t i) (concatOf (pointCounters t) (upFrom (suc i) n)), covers-fewer (pointCounters t i), covers-within t n (suc i))
 
--- enough for the ranges of the table and the counters of its points
-pub plan-within : (s : List ℕ) → accepted s ≡ true → (x : Index) → Indexed (tableOf s) x → planNeed (tableOf s) ≤ planRoom (layoutOf s) x
-unfolding layoutOf pointStart
-plan-within s ok x own =
-    let t = tableOf s in
-    let read : getD (x .starts) (x .points) 0 ≡ length (concatOf (pointCounters t) (upFrom 0 (pointTotal t))) = ap (λ (i : ℕ). getD (x .starts) i 0) (own .points) ∙ start-read t (x .starts) (own .starts) (pointTotal t) (omega arith) in
-    omega (arith, plan-fits s ok, covers-within t (pointTotal t) 0, read, own .points)
+last-start : (t : Table) (x : Index) → Indexed t x → getD (x .starts) (x .points) 0 ≡ pointStart t (pointTotal t)
+last-start t x own = ap (λ (i : ℕ). getD (x .starts) i 0) (own .points) ∙ start-read t (x .starts) (own .starts) (pointTotal t) (omega arith)
 
-pub start-few : (s : List ℕ) → accepted s ≡ true → (starts : List ℕ) → take (pointTotal (tableOf s) + 1) starts ≡ pointStarts (tableOf s) → (n : ℕ) → n ≡ pointTotal (tableOf s) → getD starts n 0 ≤ 4096
-start-few s ok starts e n en =
-    omega (arith, ap (λ (i : ℕ). getD starts i 0) en ∙ start-read (tableOf s) starts e (pointTotal (tableOf s)) (omega arith), start-low s ok (pointTotal (tableOf s)) (omega arith), sixteen s ok)
+-- enough for the ranges of the table and the counters of its points
+pub plan-within : (s : List ℕ) → accepted s ≡ true → (ranges : ℕ) → ranges ≡ recordCount s 2 → (x : Index) → Indexed (tableOf s) x → planNeed (tableOf s) ≤ planRoom ranges x
+unfolding pointStart
+plan-within s ok ranges e x own =
+    let t = tableOf s in
+    omega (arith, plan-fits s ok, covers-within t (pointTotal t) 0, last-start t x own, own .points, e)
+
+pub index-small : (s : List ℕ) → accepted s ≡ true → (x : Index) → Indexed (tableOf s) x → (x .points ≤ 16) × (getD (x .starts) (x .points) 0 ≤ 4096)
+index-small s ok x own =
+    let t = tableOf s in
+    (omega (arith, own .points, sixteen s ok), omega (arith, last-start t x own, start-low s ok (pointTotal t) (omega arith), sixteen s ok))
 
 -- two tests of a size class
 pub both-within : (a n b m : ℕ) → (leb a n && leb b m) ≡ true → (a ≤ n) × (b ≤ m)

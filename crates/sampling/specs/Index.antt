@@ -7,7 +7,6 @@ use lib.ListN.{length, getD, take}
 use Rattle.model.specs.Table.{Table}
 use Rattle.model.specs.Counters.{counters}
 use Rattle.model.specs.Register.{pointTotal, counterTotal}
-use Rattle.layout.specs.declared.Layout.{Layout}
 use Rattle.arrays.specs.Flat.{pointStarts, coverCounts, kindsOf}
 use Rattle.sampling.specs.declared.Index.{Index}
 
@@ -28,6 +27,6 @@ pub record Indexed (t : Table) (x : Index) : Type 0 where
 unfoldable pub Labelled : Table → List ℕ → Type 0
 Labelled t kinds = take (counterTotal t) kinds ≡ kindsOf (counters t)
 
--- how many words the plan of the table's values takes at most, by its ranges, its points and their counters, which are at least as many as the cover bins
-abbrev pub planRoom : Layout → Index → ℕ
-planRoom l x = 9 * l .«range_count» + 2 * (getD (x .starts) (x .points) 0 + x .points) + 7 * x .points
+-- how many words the plan of a table's values takes at most, by its ranges, its points and their counters, which are at least as many as the cover bins
+abbrev pub planRoom : ℕ → Index → ℕ
+planRoom ranges x = 9 * ranges + 2 * (getD (x .starts) (x .points) 0 + x .points) + 7 * x .points

@@ -1,19 +1,19 @@
 // What a table's values say before any sample: which cover bins still hold one, and which products each cross bin selects. x is the table's index.
 use crate::Index;
 use crosses::marked::mark_all;
-use layout::layout_of;
+use layout::bin_sections;
 use origins::put_origins;
 use pieces::build::put_plan;
 use pieces::plan::put_has;
+use spans::part::own_parts;
 ghost use mathlib.Core.Path.{_≡_};
 ghost use mathlib.Core.Bool.{true};
-ghost use Prim.Native.Nat.{_+_, _*_, _≤_};
-ghost use lib.ListN.{length, drop};
+ghost use Prim.Native.Nat.{_+_, _*_, _≤_, _<_};
+ghost use lib.ListN.{length, getD, drop};
 ghost use Rattle.model.specs.Format.{accepted, tableOf};
 ghost use Rattle.model.specs.Counters.{hasValue};
 ghost use Rattle.model.specs.Register.{pointTotal};
 ghost use Rattle.arrays.specs.Flat.{Tells, Origins};
-ghost use Rattle.layout.specs.Places.{layoutOf};
 ghost use Rattle.pieces.specs.Plan.{planNeed, ValuesPlan};
 ghost use Rattle.crosses.specs.Marked.{markTotal, Marked};
 ghost use Rattle.sampling.specs.Index.{Indexed, planRoom};
@@ -23,8 +23,9 @@ pub fn put_first(plan: &mut [u64], lists: &mut [u16], t: &[u8])
     requires { ⌜ (accepted (now t) ≡ true) × (planNeed (tableOf (now t)) ≤ length (now plan)) × (64 + 256 * pointTotal (tableOf (now t)) ≤ length (now lists)) ⌝ }
     ensures { λ _. ⌜ ValuesPlan (tableOf (now (t .entry))) (now (plan .exit)) (now (lists .exit)) × Origins (tableOf (now (t .entry))) (drop 64 (now (lists .exit))) ⌝ }
 {
-    put_plan(plan, &mut lists[..64], t);
-    put_origins(&mut lists[64..], t);
+    let parts = own_parts(t);
+    put_plan(plan, &mut lists[..64], t, parts);
+    put_origins(&mut lists[64..], t, parts);
 }
 
 // In arrays that have room for the plan, and for its bounds and the origins.
@@ -78,16 +79,15 @@ fn largest_plan(has: &mut [u8], marks: &mut [u16], t: &[u8], x: Index)
     plan_in(has, marks, &mut plan, &mut lists, t, x);
 }
 
-// At least as many words as the plan of the table's values needs.
-pub fn plan_words(t: &[u8], x: Index) -> usize
-    requires { ⌜ (accepted (now t) ≡ true) × Indexed (tableOf (now t)) x ⌝ }
-    ensures { λ r. ⌜ r ≡ planRoom (layoutOf (now (t .entry))) x ⌝ }
+// At least as many words as the plan of the table's values needs, whose value bins have so many ranges.
+pub fn plan_words(ranges: usize, x: Index) -> usize
+    requires { ⌜ (ranges < 65536) × (x .points ≤ 16) × (getD (x .starts) (x .points) 0 ≤ 4096) ⌝ }
+    ensures { λ r. ⌜ r ≡ planRoom ranges x ⌝ }
 {
-    let l = layout_of(t);
     let starts = x.starts;
     let n = x.points;
     let counters = starts[n] as usize;
-    9 * l.range_count + 2 * (counters + n) + 7 * n
+    9 * ranges + 2 * (counters + n) + 7 * n
 }
 
 // Which cover bins still hold a value, 256 bytes for each point, and the marks of the products of all crosses: by the first class, from class on, that has room.
@@ -96,7 +96,8 @@ pub fn put_planned(has: &mut [u8], marks: &mut [u16], t: &[u8], x: Index, class:
     requires { ⌜ (256 * pointTotal (tableOf (now t)) ≤ length (now has)) × (markTotal (tableOf (now t)) ≤ length (now marks)) ⌝ }
     ensures { λ _. ⌜ Tells (hasValue (tableOf (now (t .entry)))) (tableOf (now (t .entry))) (now (has .exit)) × Marked (tableOf (now (t .entry))) (now (marks .exit)) ⌝ }
 {
-    let need = plan_words(t, x);
+    let l = bin_sections(t);
+    let need = plan_words(l.range_count, x);
     if class == 0 {
         if (x.points <= 4) & (need <= 768) {
             small_plan(has, marks, t, x);

@@ -14,7 +14,7 @@ use Rattle.pieces.proofs.build.+put_sized.{statement}
 use Rattle.pieces.proofs.build.+put_sized.Tie.{close}
 
 abbrev μ-put-sized : Measures 3 put-sized-kinds.ps ℕ
-μ-put-sized κs a = 2 - a .1 .1 .1 .1 .0
+μ-put-sized κs a = 2 - a .1 .1 .1 .1 .1 .0
 
 abbrev put-sized-at : ℕ → In 3 put-sized-kinds.ps
 put-sized-at t = and 3 put-sized-kinds.ps (is 3 put-sized-kinds.ps μ-put-sized t) put-sized.Pre
@@ -37,7 +37,7 @@ claims t = (
 put-sized-put-small-requires : (t : ℕ) → put-sized-lts.Need-put-small-requires (claims t) (put-sized-at t) put-sized.Post
 put-sized-put-small-requires t c κs =
     let q = c .before .before .before .before .before .before .before .pre .1 in
-    (q .0, q .1, q .2, omega (arith, q .3, c .before .before .if2 .taken))
+    (q .0, q .1, q .2, omega (arith, q .3, c .before .before .if2 .taken), q .4)
 
 put-sized-same-length : (t : ℕ) → put-sized-lts.Need-same-length (claims t) (put-sized-at t) put-sized.Post
 put-sized-same-length t c = c .before .before .before .before .put-small .ensures .1
@@ -51,7 +51,7 @@ put-sized-returns t c = c .before .before .before .before .put-small .ensures
 put-sized-put-sized-requires : (t : ℕ) → put-sized-lts.Need-put-sized-requires (claims t) (put-sized-at t) put-sized.Post
 put-sized-put-sized-requires t c κs =
     let q = c .before .before .before .before .before .before .before .pre .1 in
-    (omega arith, (q .0, q .1, q .2, q .3))
+    (omega arith, (q .0, q .1, q .2, q .3, q .4))
 
 put-sized-same-length-3 : (t : ℕ) → put-sized-lts.Need-same-length-3 (claims t) (put-sized-at t) put-sized.Post
 put-sized-same-length-3 t c = c .before .before .before .before .put-sized .ensures .1
@@ -65,7 +65,7 @@ put-sized-returns-2 t c = c .before .before .before .before .put-sized .ensures
 put-sized-put-medium-requires : (t : ℕ) → put-sized-lts.Need-put-medium-requires (claims t) (put-sized-at t) put-sized.Post
 put-sized-put-medium-requires t c κs =
     let q = c .before .before .before .before .before .before .before .before .pre .1 in
-    (q .0, q .1, q .2, omega (arith, q .3, c .before .before .if4 .taken))
+    (q .0, q .1, q .2, omega (arith, q .3, c .before .before .if4 .taken), q .4)
 
 put-sized-same-length-5 : (t : ℕ) → put-sized-lts.Need-same-length-5 (claims t) (put-sized-at t) put-sized.Post
 put-sized-same-length-5 t c = c .before .before .before .before .put-medium .ensures .1
@@ -79,7 +79,7 @@ put-sized-returns-3 t c = c .before .before .before .before .put-medium .ensures
 put-sized-put-sized-requires-2 : (t : ℕ) → put-sized-lts.Need-put-sized-requires-2 (claims t) (put-sized-at t) put-sized.Post
 put-sized-put-sized-requires-2 t c κs =
     let q = c .before .before .before .before .before .before .before .before .pre .1 in
-    (omega arith, (q .0, q .1, q .2, q .3))
+    (omega arith, (q .0, q .1, q .2, q .3, q .4))
 
 put-sized-same-length-7 : (t : ℕ) → put-sized-lts.Need-same-length-7 (claims t) (put-sized-at t) put-sized.Post
 put-sized-same-length-7 t c = c .before .before .before .before .put-sized2 .ensures .1
@@ -94,7 +94,7 @@ put-sized-put-largest-requires : (t : ℕ) → put-sized-lts.Need-put-largest-re
 put-sized-put-largest-requires t c κs =
     let q = c .before .before .before .before .before .before .before .pre .1 in
     let s = c .before .before .before .before .before .before .before .args .t .now in
-    (q .0, q .1, q .2, ranges-most s (q .0))
+    (q .0, q .1, q .2, ranges-most s (q .0), q .4)
 
 put-sized-same-length-9 : (t : ℕ) → put-sized-lts.Need-same-length-9 (claims t) (put-sized-at t) put-sized.Post
 put-sized-same-length-9 t c = c .before .before .before .before .put-largest .ensures .1

@@ -14,12 +14,12 @@ use Rattle.pieces.proofs.build.put_all.Statement.{statement}
 use Rattle.pieces.proofs.build.put_all.Tie as tie
 
 abbrev Inv-loop : tie.InvT-loop
-Inv-loop plan₀ bounds₀ room₀ sorted₀ t n parts at₀ p₀ plan bounds room sorted at p =
+Inv-loop plan₀ bounds₀ room₀ sorted₀ t parts n at₀ p₀ plan bounds room sorted at p =
     (p ≤ n) × (n ≡ pointTotal (tableOf t)) × (length plan ≡ length plan₀) × (length bounds ≡ length bounds₀) × (length room ≡ length room₀) × (length sorted ≡ length sorted₀)
     × (at + needFrom (tableOf t) p (n - p) ≤ planNeed (tableOf t)) × (getD bounds (3 * p) 0 ≡ at) × PlannedTo (tableOf t) p plan bounds at
 
 abbrev μ-loop : tie.MeasureT-loop
-μ-loop plan₀ bounds₀ room₀ sorted₀ t n parts at₀ p₀ plan bounds room sorted at p = n - p
+μ-loop plan₀ bounds₀ room₀ sorted₀ t parts n at₀ p₀ plan bounds room sorted at p = n - p
 
 read2-requires : tie.Need-read2-requires Inv-loop μ-loop
 read2-requires c κs = omega arith
@@ -27,41 +27,37 @@ read2-requires c κs = omega arith
 cast-n : tie.Need-cast-n Inv-loop μ-loop
 cast-n c = omega arith
 
-own-parts-requires : tie.Need-own-parts-requires Inv-loop μ-loop
-own-parts-requires c κs = c .before .before .before .before .before .before .pre .0 .0
-
 slice-write-bounds : tie.Need-slice-write-bounds Inv-loop μ-loop
 slice-write-bounds c = omega arith
 
 loop-holds : tie.Need-loop-holds Inv-loop μ-loop
 loop-holds c =
-    let a = c .before .before .before .before .before .before .before .args in
-    let q = c .before .before .before .before .before .before .before .pre in
-    let e = points-read (a .t .now) (q .0 .0) _ (c .before .read2 .ensures) in
+    let a = c .before .before .before .before .before .before .args in
+    let q = c .before .before .before .before .before .before .pre in
+    let e = points-read (a .t .now) (q .0 .0) _ (c .read2 .ensures) in
     (omega arith, e, refl, simp length-set refl, refl, refl, need-start (tableOf (a .t .now)) _ e, first-start (a .bounds .now) (q .0 .2), (λ x h. absurd (omega arith)))
 
 part-of-requires : tie.Need-part-of-requires Inv-loop μ-loop
 part-of-requires c κs =
-    let a = c .before .before .before .before .before .before .before .before .before .args in
-    let q = c .before .before .before .before .before .before .before .before .before .pre in
+    let a = c .before .before .before .before .before .before .before .before .args in
+    let q = c .before .before .before .before .before .before .before .before .pre in
     omega (arith, c .before .loop .inv .1, few-points (a .t .now) (q .0 .0))
 
 put-point-requires : tie.Need-put-point-requires Inv-loop μ-loop
 put-point-requires c κs =
-    let a = c .before .before .before .before .before .before .before .before .before .before .before .before .before .args in
-    let q = c .before .before .before .before .before .before .before .before .before .before .before .before .before .pre in
+    let a = c .before .before .before .before .before .before .before .before .before .before .before .before .args in
+    let q = c .before .before .before .before .before .before .before .before .before .before .before .before .pre in
     let l = c .before .before .before .before .before .loop in
     let h = turn-room (a .t .now) (q .0 .0) _ (l .p) (l .at) (l .inv .1) (omega arith) (l .inv .6) in
     let r = point-listed (a .t .now) (q .0 .0) (l .p) in
-    let x = c .before .before .before .before .before .before .own-parts in
     let o = c .before .before .before .part-of in
-    let own = own-bins (a .t .now) (x .result) (l .p) (o .result) (x .ensures) (omega (arith, l .inv .1, few-points (a .t .now) (q .0 .0))) (o .ensures) in
+    let own = own-bins (a .t .now) (a .parts) (l .p) (o .result) (q .0 .3) (omega (arith, l .inv .1, few-points (a .t .now) (q .0 .0))) (o .ensures) in
     ((q .0 .0, h .0, omega (arith, h .2, l .inv .2, q .0 .1), own), (omega (arith, r, l .inv .4, q .1 .0), omega (arith, l .inv .4, l .inv .5, q .1 .1)))
 
 cast-bounds : tie.Need-cast-bounds Inv-loop μ-loop
 cast-bounds c =
-    let a = c .before .before .before .before .before .before .before .before .before .before .before .before .before .before .before .before .before .before .before .before .before .args in
-    let q = c .before .before .before .before .before .before .before .before .before .before .before .before .before .before .before .before .before .before .before .before .before .pre in
+    let a = c .before .before .before .before .before .before .before .before .before .before .before .before .before .before .before .before .before .before .before .before .args in
+    let q = c .before .before .before .before .before .before .before .before .before .before .before .before .before .before .before .before .before .before .before .before .pre in
     let l = c .before .before .before .before .before .before .before .before .before .before .before .before .before .loop in
     let h = turn-room (a .t .now) (q .0 .0) _ (l .p) (l .at) (l .inv .1) (omega arith) (l .inv .6) in
     let k = c .before .before .before .before .before .before .before .put-point .ensures in
@@ -78,8 +74,8 @@ mul-bounds-2 c = omega arith
 
 slice-write-bounds-2 : tie.Need-slice-write-bounds-2 Inv-loop μ-loop
 slice-write-bounds-2 c =
-    let a = c .before .before .before .before .before .before .before .before .before .before .before .before .before .before .before .before .before .before .before .before .before .args in
-    let q = c .before .before .before .before .before .before .before .before .before .before .before .before .before .before .before .before .before .before .before .before .before .pre in
+    let a = c .before .before .before .before .before .before .before .before .before .before .before .before .before .before .before .before .before .before .before .before .args in
+    let q = c .before .before .before .before .before .before .before .before .before .before .before .before .before .before .before .before .before .before .before .before .pre in
     let l = c .before .before .before .before .before .before .before .before .before .before .before .before .before .loop in
     let h = turn-room (a .t .now) (q .0 .0) _ (l .p) (l .at) (l .inv .1) (omega arith) (l .inv .6) in
     let kept : length (l .bounds) ≡ length (a .bounds .now) = l .inv .3 ∙ simp length-set in
@@ -87,8 +83,8 @@ slice-write-bounds-2 c =
 
 cast-bounds-2 : tie.Need-cast-bounds-2 Inv-loop μ-loop
 cast-bounds-2 c =
-    let a = c .before .before .before .before .before .before .before .before .before .before .before .before .before .before .before .before .before .before .before .before .before .before .args in
-    let q = c .before .before .before .before .before .before .before .before .before .before .before .before .before .before .before .before .before .before .before .before .before .before .pre in
+    let a = c .before .before .before .before .before .before .before .before .before .before .before .before .before .before .before .before .before .before .before .before .before .args in
+    let q = c .before .before .before .before .before .before .before .before .before .before .before .before .before .before .before .before .before .before .before .before .before .pre in
     let l = c .before .before .before .before .before .before .before .before .before .before .before .before .before .before .loop in
     let h = turn-room (a .t .now) (q .0 .0) _ (l .p) (l .at) (l .inv .1) (omega arith) (l .inv .6) in
     let k = c .before .before .before .before .before .before .before .before .put-point .ensures in
@@ -105,8 +101,8 @@ mul-bounds-4 c = omega arith
 
 slice-write-bounds-3 : tie.Need-slice-write-bounds-3 Inv-loop μ-loop
 slice-write-bounds-3 c =
-    let a = c .before .before .before .before .before .before .before .before .before .before .before .before .before .before .before .before .before .before .before .before .before .before .args in
-    let q = c .before .before .before .before .before .before .before .before .before .before .before .before .before .before .before .before .before .before .before .before .before .before .pre in
+    let a = c .before .before .before .before .before .before .before .before .before .before .before .before .before .before .before .before .before .before .before .before .before .args in
+    let q = c .before .before .before .before .before .before .before .before .before .before .before .before .before .before .before .before .before .before .before .before .before .pre in
     let l = c .before .before .before .before .before .before .before .before .before .before .before .before .before .before .loop in
     let h = turn-room (a .t .now) (q .0 .0) _ (l .p) (l .at) (l .inv .1) (omega arith) (l .inv .6) in
     let kept : length (l .bounds) ≡ length (a .bounds .now) = l .inv .3 ∙ simp length-set in
@@ -114,8 +110,8 @@ slice-write-bounds-3 c =
 
 cast-bounds-3 : tie.Need-cast-bounds-3 Inv-loop μ-loop
 cast-bounds-3 c =
-    let a = c .before .before .before .before .before .before .before .before .before .before .before .before .before .before .before .before .before .before .before .before .before .before .before .args in
-    let q = c .before .before .before .before .before .before .before .before .before .before .before .before .before .before .before .before .before .before .before .before .before .before .before .pre in
+    let a = c .before .before .before .before .before .before .before .before .before .before .before .before .before .before .before .before .before .before .before .before .before .before .args in
+    let q = c .before .before .before .before .before .before .before .before .before .before .before .before .before .before .before .before .before .before .before .before .before .before .pre in
     let l = c .before .before .before .before .before .before .before .before .before .before .before .before .before .before .before .loop in
     let h = turn-room (a .t .now) (q .0 .0) _ (l .p) (l .at) (l .inv .1) (omega arith) (l .inv .6) in
     let k = c .before .before .before .before .before .before .before .before .before .put-point .ensures in
@@ -132,8 +128,8 @@ mul-bounds-6 c = omega arith
 
 slice-write-bounds-4 : tie.Need-slice-write-bounds-4 Inv-loop μ-loop
 slice-write-bounds-4 c =
-    let a = c .before .before .before .before .before .before .before .before .before .before .before .before .before .before .before .before .before .before .before .before .before .before .before .args in
-    let q = c .before .before .before .before .before .before .before .before .before .before .before .before .before .before .before .before .before .before .before .before .before .before .before .pre in
+    let a = c .before .before .before .before .before .before .before .before .before .before .before .before .before .before .before .before .before .before .before .before .before .before .args in
+    let q = c .before .before .before .before .before .before .before .before .before .before .before .before .before .before .before .before .before .before .before .before .before .before .pre in
     let l = c .before .before .before .before .before .before .before .before .before .before .before .before .before .before .before .loop in
     let h = turn-room (a .t .now) (q .0 .0) _ (l .p) (l .at) (l .inv .1) (omega arith) (l .inv .6) in
     let kept : length (l .bounds) ≡ length (a .bounds .now) = l .inv .3 ∙ simp length-set in
@@ -147,8 +143,8 @@ loop-less c = omega arith
 
 loop-again : tie.Need-loop-again Inv-loop μ-loop
 loop-again c =
-    let a = c .before .before .before .before .before .before .before .before .before .before .before .before .before .before .before .before .before .before .before .before .before .before .before .args in
-    let q = c .before .before .before .before .before .before .before .before .before .before .before .before .before .before .before .before .before .before .before .before .before .before .before .pre in
+    let a = c .before .before .before .before .before .before .before .before .before .before .before .before .before .before .before .before .before .before .before .before .before .before .args in
+    let q = c .before .before .before .before .before .before .before .before .before .before .before .before .before .before .before .before .before .before .before .before .before .before .pre in
     let l = c .before .before .before .before .before .before .before .before .before .before .before .before .before .before .before .loop in
     let h = turn-room (a .t .now) (q .0 .0) _ (l .p) (l .at) (l .inv .1) (omega arith) (l .inv .6) in
     let kept : length (l .bounds) ≡ length (a .bounds .now) = l .inv .3 ∙ simp length-set in
@@ -181,7 +177,7 @@ same-length-4 c = c .before .loop .inv .5
 
 returns : tie.Need-returns Inv-loop μ-loop
 returns c =
-    let a = c .before .before .before .before .before .before .before .before .before .args in
+    let a = c .before .before .before .before .before .before .before .before .args in
     let l = c .before .loop in
     (all-planned (tableOf (a .t .now)) (l .p) (l .plan) (l .bounds) (l .at) (l .inv .8) (omega (arith, l .inv .1)), l .inv .2, l .inv .3 ∙ simp length-set)
 
@@ -193,7 +189,6 @@ put-all-spec =
     μ-loop
     read2-requires
     cast-n
-    own-parts-requires
     slice-write-bounds
     loop-holds
     part-of-requires

@@ -12,7 +12,7 @@ slice-aggregate-put-all-2 c = search needs
 put-all-requires : tie.Need-put-all-requires
 put-all-requires c κs =
     let q = c .before .before .before .before .before .before .before .pre in
-    ((q .0, q .1, q .2), (q .3, omega arith))
+    ((q .0, q .1, q .2, q .4), (q .3, omega arith))
 
 same-length : tie.Need-same-length
 same-length c = search needs

@@ -10,7 +10,7 @@ put-sized-requires : tie.Need-put-sized-requires
 put-sized-requires c κs =
     let q = c .before .before .before .before .before .before .pre in
     let l = c .before .before .bin-sections in
-    (q .0, q .1, q .2, range-count-at (c .before .before .before .before .before .before .args .t .now) (l .result) (l .ensures .0))
+    (q .0, q .1, q .2, range-count-at (c .before .before .before .before .before .before .args .t .now) (l .result) (l .ensures .0), q .3)
 
 same-length : tie.Need-same-length
 same-length c = c .before .before .before .before .put-sized .ensures .1
