@@ -2,7 +2,7 @@
 -- Assumes nothing.
 use Prim.Native.Nat.{ℕ, zero, suc, _+_, _*_, _<_, _≤_}
 use mathlib.Core.Path.{_≡_, refl, ap, sym, _∙_, subst}
-use mathlib.Core.Bool.{Bool, true, false, _&&_, cond, and-true, or-false}
+use mathlib.Core.Bool.{Bool, true, cond, and-true, or-false}
 use mathlib.Core.List.{List, [], _∷_, map}
 use native.Mathlib.Omega.{arith}
 use lib.Dec.{leb, ltb, eqb}
@@ -19,7 +19,7 @@ use Rattle.words.specs.Sums.{sumFrom}
 use Rattle.words.specs.declared.verdicts.Verdict.{Verdict}
 use Rattle.words.proofs.Laws.{verdict-record, sound-got}
 use Rattle.words.proofs.Chain.{bind-done, owned-on}
-use Rattle.check_crosses.specs.Crosses.{pairsDiffer, pointsDiffer, pointOk, pointsOk, crossEnd, soundCross, CrossOk, CrossesOk}
+use Rattle.check_crosses.specs.Crosses.{pairsDiffer, pointsDiffer, crossEnd, CrossOk, CrossesOk}
 use Rattle.words.proofs.Laws.{unless-same}
 use Rattle.words.proofs.Flat.{times-same, each-times}
 
@@ -72,51 +72,6 @@ pub cross-whole : (s : List ℕ) (points at : ℕ) (r : Verdict) → at + 13 ≤
     (verdictIn (crossEnd s at) (verdict 0 (at + 13)))))))
     → r ≡ verdictOf (readCross s points at)
 cross-whole s points at r w e = e ∙ sym (rw (le-leb (at + 13) (length s) w) at (verdict-cross s points at))
-
-test-passes : (b : Bool) (class at : ℕ) (rest : Verdict) → b ≡ true → unlessOk b class at rest ≡ rest
-test-passes b class at rest h = rw h
-
--- a point that passes its test
-point-passes : (s : List ℕ) (points at i : ℕ) (rest : Verdict) → pointOk s points at i ≡ true → verdictIn (crossPointTest s points at i ∷ []) rest ≡ rest
-unfolding pointOk verdictIn
-point-passes s points at i rest h = go (ltb i (byte s at)) (ltb (byte s (at + 1 + i)) points) (eqb (byte s (at + 1 + i)) 255) h
-  where
-    go : (b x y : Bool) → cond b x y ≡ true → verdictIn (cond b (x, field, at + 1 + i) (y, unused, at + 1 + i) ∷ []) rest ≡ rest
-    go true x y h = unfold verdictIn in (rw h)
-    go false x y h = unfold verdictIn in (rw h)
-
--- those after the points pass
-end-passes : (s : List ℕ) (at : ℕ) (rest : Verdict) → guardOk (byte s (at + 5)) ≡ true → leb 1 (u32 s (at + 8)) ≡ true → leb (byte s (at + 12)) 16 ≡ true → pointsDiffer s at ≡ true → verdictIn (crossEnd s at) rest ≡ rest
-unfolding crossEnd verdictIn
-end-passes s at rest g l b d = rw (g, l, b, d)
-
--- one that passes all tests
-pub sound-cross : (s : List ℕ) (points at : ℕ) (b : Bool) (r : Verdict) → at + 13 ≤ length s → b ≡ soundCross s points at → b ≡ true → r ≡ verdict 0 (at + 13) → r ≡ verdictOf (readCross s points at)
-unfolding soundCross pointsOk
-sound-cross s points at b r w eb z e =
-    let n = within 2 4 (byte s at) in
-    let p = pointOk s points at in
-    let known = pointsOk s points at in
-    let guard = guardOk (byte s (at + 5)) in
-    let least = leb 1 (u32 s (at + 8)) in
-    let bins = leb (byte s (at + 12)) 16 in
-    let h = sym eb ∙ z in
-    let h₃ = and-left (((known && guard) && least) && bins) (pointsDiffer s at) h in
-    let h₂ = and-left ((known && guard) && least) bins h₃ in
-    let h₁ = and-left (known && guard) least h₂ in
-    let h₀ = and-left known guard h₁ in
-    let p₂ = and-left (((n && p 0) && p 1) && p 2) (p 3) h₀ in
-    let p₁ = and-left ((n && p 0) && p 1) (p 2) p₂ in
-    let p₀ = and-left (n && p 0) (p 1) p₁ in
-    cross-whole s points at r w
-    (e
-    ∙ sym (test-passes n 6 at _ (and-left n (p 0) p₀)
-    ∙ point-passes s points at 0 _ (and-right n (p 0) p₀)
-    ∙ point-passes s points at 1 _ (and-right (n && p 0) (p 1) p₁)
-    ∙ point-passes s points at 2 _ (and-right ((n && p 0) && p 1) (p 2) p₂)
-    ∙ point-passes s points at 3 _ (and-right (((n && p 0) && p 1) && p 2) (p 3) h₀)
-    ∙ end-passes s at _ (and-right known guard h₁) (and-right (known && guard) least h₂) (and-right ((known && guard) && least) bins h₃)
-    (and-right (((known && guard) && least) && bins) (pointsDiffer s at) h)))
 
 -- what its tests grant
 pub cross-ok : (s : List ℕ) (points at : ℕ) → AllPass (crossTests s points at) → CrossOk s points at

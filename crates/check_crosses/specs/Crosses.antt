@@ -6,7 +6,6 @@ use mathlib.Core.List.{List, [], _∷_}
 use mathlib.Core.Option.{Option, none, some}
 use lib.Dec.{leb, ltb, eqb}
 use lib.ListN.{length}
-use Rattle.model.specs.Lists.{within}
 use Rattle.model.specs.Table.{Point, Select}
 use Rattle.model.specs.Format.{Test, field, unused, count, disagreement, byte, u16, u32, u64, guardOk, valueTests}
 use Rattle.check_crosses.specs.declared.tokens.Token.{Token}
@@ -30,18 +29,6 @@ crossEnd s at =
     ∷ (leb (byte s (at + 12)) 16, count, at + 12)
     ∷ (pointsDiffer s at, disagreement, at)
     ∷ []
-
--- the i-th of the four points is one of the table's, or unused
-unfoldable pub pointOk : List ℕ → ℕ → ℕ → ℕ → Bool
-pointOk s points at i = cond (ltb i (byte s at)) (ltb (byte s (at + 1 + i)) points) (eqb (byte s (at + 1 + i)) 255)
-
--- there are two to four points, all of the table's
-unfoldable pub pointsOk : List ℕ → ℕ → ℕ → Bool
-pointsOk s points at = (((within 2 4 (byte s at) && pointOk s points at 0) && pointOk s points at 1) && pointOk s points at 2) && pointOk s points at 3
-
--- all tests on the cross pass
-unfoldable pub soundCross : List ℕ → ℕ → ℕ → Bool
-soundCross s points at = (((pointsOk s points at && guardOk (byte s (at + 5))) && leb 1 (u32 s (at + 8))) && leb (byte s (at + 12)) 16) && pointsDiffer s at
 
 -- the cross at `at` has two to four points, each below `points`
 pub record CrossOk (s : List ℕ) (points at : ℕ) : Type 0 where

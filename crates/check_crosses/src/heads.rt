@@ -5,9 +5,7 @@ use words::bytes::read4;
 use words::counts::section_count;
 use words::guards::guard_ok;
 use words::verdicts::Verdict;
-use words::verdicts::choose;
 use words::verdicts::fault;
-use words::verdicts::pick;
 use words::verdicts::sound;
 use words::verdicts::test;
 ghost use mathlib.Core.Path.{_≡_};
@@ -16,7 +14,7 @@ ghost use Prim.Native.Nat.{_+_, _≤_};
 ghost use lib.ListN.{length};
 ghost use Rattle.model.specs.Format.{crossPointTest, readCross, times, readCrossSection};
 ghost use Rattle.words.specs.Verdicts.{verdict, verdictOf, verdictIn};
-ghost use Rattle.check_crosses.specs.Crosses.{pairsDiffer, pointsDiffer, pointOk, pointsOk, crossEnd, soundCross};
+ghost use Rattle.check_crosses.specs.Crosses.{pairsDiffer, pointsDiffer, crossEnd};
 
 // Whether the first n of four points are different, n from 2 to 4.
 fn pairs_differ(n: u8, a: u8, b: u8, c: u8, d: u8) -> bool
@@ -41,55 +39,23 @@ fn points_differ(t: &[u8], at: usize) -> bool
     pairs_differ(n, a, b, c, d)
 }
 
-// Whether the i-th of the four points is one of the table's, or unused.
-fn point_ok(t: &[u8], points: usize, at: usize, i: usize) -> bool
-    requires { ⌜ (at + 13 ≤ length (now t)) × (length (now t) ≤ 65536) × (i ≤ 3) ⌝ }
-    ensures { λ r. ⌜ r ≡ pointOk (now (t .entry)) points at i ⌝ }
-{
-    let p = inside(t, at + 1 + i) as usize;
-    let n = inside(t, at) as usize;
-    pick(i < n, p < points, p == 255)
-}
-
-// Whether there are two to four points, all of the table's.
-fn points_ok(t: &[u8], points: usize, at: usize) -> bool
-    requires { ⌜ (at + 13 ≤ length (now t)) × (length (now t) ≤ 65536) ⌝ }
-    ensures { λ r. ⌜ r ≡ pointsOk (now (t .entry)) points at ⌝ }
-{
-    let n = inside(t, at);
-    let a = point_ok(t, points, at, 0);
-    let b = point_ok(t, points, at, 1);
-    let c = point_ok(t, points, at, 2);
-    let d = point_ok(t, points, at, 3);
-    (2 <= n) & (n <= 4) & a & b & c & d
-}
-
-// Whether the cross at at, which is whole, passes all tests.
-fn sound_cross(t: &[u8], points: usize, at: usize) -> bool
-    requires { ⌜ (at + 13 ≤ length (now t)) × (length (now t) ≤ 65536) ⌝ }
-    ensures { λ r. ⌜ r ≡ soundCross (now (t .entry)) points at ⌝ }
-{
-    let known = points_ok(t, points, at);
-    let guarded = guard_ok(inside(t, at + 5));
-    let least = read4(t, at + 8);
-    let bins = inside(t, at + 12);
-    let different = points_differ(t, at);
-    known & guarded & (1 <= least) & (bins <= 16) & different
-}
-
 // The tests after those on the points.
 fn cross_end(t: &[u8], at: usize) -> Verdict
     requires { ⌜ (at + 13 ≤ length (now t)) × (length (now t) ≤ 65536) ⌝ }
     ensures { λ r. ⌜ r ≡ verdictIn (crossEnd (now (t .entry)) at) (verdict 0 (at + 13)) ⌝ }
 {
     let different = points_differ(t, at);
-    let bins = inside(t, at + 12);
-    let least = read4(t, at + 8);
-    let guard = guard_ok(inside(t, at + 5));
-    let d = test(different, 7, at, sound(at + 13));
-    let c = test(bins <= 16, 3, at + 12, d);
-    let b = test(1 <= least, 6, at + 8, c);
-    test(guard, 6, at + 5, b)
+    let few = inside(t, at + 12) <= 16;
+    let reached = 1 <= read4(t, at + 8);
+    let guarded = guard_ok(inside(t, at + 5));
+    let end = sound(at + 13);
+    if guarded & reached & few & different {
+        return end;
+    }
+    let d = test(different, 7, at, end);
+    let c = test(few, 3, at + 12, d);
+    let b = test(reached, 6, at + 8, c);
+    test(guarded, 6, at + 5, b)
 }
 
 // The i-th of the four points: one of the table's, or unused.
@@ -100,9 +66,10 @@ fn point_test(t: &[u8], points: usize, at: usize, i: usize, rest: Verdict) -> Ve
     let place = at + 1 + i;
     let p = inside(t, place) as usize;
     let n = inside(t, at) as usize;
-    let used = test(p < points, 6, place, rest);
-    let free = test(p == 255, 5, place, rest);
-    choose(i < n, used, free)
+    if i < n {
+        return test(p < points, 6, place, rest);
+    }
+    test(p == 255, 5, place, rest)
 }
 
 fn cross(t: &[u8], points: usize, at: usize) -> Verdict
@@ -111,9 +78,6 @@ fn cross(t: &[u8], points: usize, at: usize) -> Verdict
 {
     if t.len() < at + 13 {
         return fault(2, at);
-    }
-    if sound_cross(t, points, at) {
-        return sound(at + 13);
     }
     let n = inside(t, at);
     let e = cross_end(t, at);

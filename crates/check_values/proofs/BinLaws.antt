@@ -2,24 +2,24 @@
 -- Assumes nothing.
 use Prim.Native.Nat.{ℕ, zero, suc, _+_, _*_, _-_, _<_, _≤_}
 use mathlib.Core.Path.{_≡_, refl, ap, ap₂, sym, _∙_}
-use mathlib.Core.Bool.{Bool, true, false, not, _&&_, _||_, cond}
+use mathlib.Core.Bool.{Bool, true, false, not, _&&_, _||_, cond, and-true}
 use mathlib.Core.List.{List, [], _∷_}
 use native.Mathlib.Omega.{arith}
 use native.Mathlib.Numerals.{add-one}
-use lib.Dec.{leb, ltb, eqb}
+use lib.Dec.{eqb}
 use lib.ListN.{length}
 use borrow.Author.Needs.{needs}
-use borrow.Author.Tests.{le-leb, lt-leb, eqb-true, ne-eqb}
+use borrow.Author.Tests.{le-leb, lt-leb, ne-eqb}
 use Rattle.model.specs.Lists.{any}
 use Rattle.model.specs.Table.{isDefault}
-use Rattle.model.specs.Format.{Read, got, andThen, byte, u16, guardOk, BinHead, binHead, binRules, binTests, defaultsWith, firstDefault, readBinHeads}
-use Rattle.words.specs.Verdicts.{verdict, verdictOf, verdictIn}
+use Rattle.model.specs.Format.{Read, got, andThen, byte, BinHead, binHead, binTests, defaultsWith, firstDefault, readBinHeads}
+use Rattle.words.specs.Verdicts.{verdict, verdictOf}
 use Rattle.words.specs.declared.verdicts.Verdict.{Verdict}
-use Rattle.words.proofs.Laws.{verdict-stop, verdict-done, record-got, record-whole, sound-record, class-of}
-use Rattle.model.proofs.Booleans.{and-left, and-right, false-true}
+use Rattle.words.proofs.Laws.{verdict-stop, verdict-done, record-got, sound-record, class-of}
+use Rattle.model.proofs.Booleans.{false-true}
 use Rattle.model.proofs.Fields.{default-kind}
 use Rattle.model.proofs.Lists.{none-left, one-left}
-use Rattle.check_values.specs.Places.{defaultsUpTo, fieldsAt, plainBin, readBin, isDefaultOf}
+use Rattle.check_values.specs.Places.{defaultsUpTo, fieldsAt, readBin, isDefaultOf}
 use Rattle.check_values.specs.declared.bins.Bin.{Bin}
 
 pub heads-step : (s : List ℕ) (points base i n : ℕ) → verdictOf (readBin s points base i (base + 8 * i)) .class ≡ 0
@@ -102,44 +102,26 @@ module _ (s : List ℕ) (base i k : ℕ) (kind : k ≡ byte s (base + 8 * i + 1)
 
 pub ruleset firstDefaults = (needs, first-some, first-none)
 
--- ---- a plain bin
+-- ---- a bin's tests
 
-plain-kind : (kind : ℕ) → (eqb kind 0 || eqb kind 2) ≡ true → (kind < 3) × ((points point guard ranges at : ℕ) (first : Bool) (rest : Verdict)
-    → ltb point points ≡ true → guardOk guard ≡ true → leb 1 ranges ≡ true → first ≡ true → rest ≡ verdictIn (binRules points point kind 0 0 guard ranges first at) rest)
-unfolding binRules verdictIn
-plain-kind zero e = (omega arith, λ points point guard ranges at first rest p g o f. rw (p, g, o, f))
-plain-kind (suc zero) e = absurd (false-true e)
-plain-kind (suc (suc zero)) e = (omega arith, λ points point guard ranges at first rest p g o f. rw (p, g, o, f))
+-- the two tests on its number, as one
+pub number-tests : (b dealt some none : Bool) → (b && cond dealt some none) ≡ ((b && (not dealt || some)) && (dealt || none))
+number-tests true true some none = sym (and-true some)
+number-tests true false some none = refl
+number-tests false dealt some none = refl
+
+plain-kind : (kind : ℕ) → (eqb kind 0 || eqb kind 2) ≡ true → kind < 3
+plain-kind zero e = omega arith
+plain-kind (suc zero) e = omega arith
+plain-kind (suc (suc zero)) e = omega arith
 plain-kind (suc (suc (suc kind))) e =
     let k = suc (suc (suc kind)) in
     let a : eqb k 0 ≡ false = ne-eqb k 0 (λ q. omega (arith, q)) in
     let b : eqb k 2 ≡ false = ne-eqb k 2 (λ q. omega (arith, q)) in
     absurd (false-true (sym (ap₂ _||_ a b) ∙ e))
 
--- its tests pass
-pub plain-read : (s : List ℕ) (points base i : ℕ) (bin : Bin) (b : Bool) (r : Verdict) → base + 8 * i + 8 ≤ length s → bin ≡ fieldsAt s (base + 8 * i) → b ≡ plainBin points bin → b ≡ true
-    → r ≡ verdict 0 (base + 8 * i + 8) → r ≡ verdictOf (readBin s points base i (base + 8 * i))
-unfolding readBin plainBin
-plain-read s points base i bin b r w eb ep z e =
-    let at = base + 8 * i in
-    let h : plainBin points (fieldsAt s at) ≡ true = sym (ep ∙ ap (plainBin points) eb) ∙ z in
-    let form = eqb (byte s (at + 2)) 0 in
-    let number = eqb (u16 s (at + 3)) 0 in
-    let kind = eqb (byte s (at + 1)) 0 || eqb (byte s (at + 1)) 2 in
-    let point = ltb (byte s at) points in
-    let guard = guardOk (byte s (at + 5)) in
-    let ranges = leb 1 (u16 s (at + 6)) in
-    let h₄ = and-left ((((form && number) && kind) && point) && guard) ranges h in
-    let h₃ = and-left (((form && number) && kind) && point) guard h₄ in
-    let h₂ = and-left ((form && number) && kind) point h₃ in
-    let h₁ = and-left (form && number) kind h₂ in
-    let k = plain-kind (byte s (at + 1)) (and-right (form && number) kind h₂) in
-    let fe : byte s (at + 2) ≡ 0 = eqb-true (byte s (at + 2)) 0 (and-left form number h₁) in
-    let ne : u16 s (at + 3) ≡ 0 = eqb-true (u16 s (at + 3)) 0 (and-right form number h₁) in
-    let first = firstDefault (binHead s at) (defaultsUpTo s base i) in
-    let f : first ≡ true = sym (first-none s base i (byte s (at + 1)) refl (k .0)) in
-    let rest = verdict 0 (at + 8) in
-    record-whole s 8 (binTests s points (defaultsUpTo s base i)) (binHead s) at r w
-    (e ∙ k .1 points (byte s at) (byte s (at + 5)) (u16 s (at + 6)) at first rest (and-right ((form && number) && kind) point h₃) (and-right (((form && number) && kind) && point) guard h₄)
-    (and-right ((((form && number) && kind) && point) && guard) ranges h) f
-    ∙ ap₂ (λ (x y : ℕ). verdictIn (binRules points (byte s at) (byte s (at + 1)) x y (byte s (at + 5)) (u16 s (at + 6)) first at) rest) (sym fe) (sym ne))
+-- a cover or an illegal bin is no default
+pub first-plain : (s : List ℕ) (base i : ℕ) {bin : Bin} → bin ≡ fieldsAt s (base + 8 * i) → (eqb (bin .kind) 0 || eqb (bin .kind) 2) ≡ true
+    → firstDefault (binHead s (base + 8 * i)) (defaultsUpTo s base i) ≡ true
+first-plain s base i {bin} e h =
+    sym (first-none s base i (bin .kind) (ap (λ (b : Bin). b .kind) e) (plain-kind (bin .kind) h))

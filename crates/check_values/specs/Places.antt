@@ -1,11 +1,11 @@
 -- Value bins by their places: the points with a default among the first bins, and a bin whose point is there.
 -- Assumes nothing.
 use Prim.Native.Nat.{ℕ, zero, suc, _+_, _*_, _<_, _≤_}
-use mathlib.Core.Bool.{Bool, _&&_, _||_}
+use mathlib.Core.Bool.{Bool, _&&_}
 use mathlib.Core.List.{List, []}
-use lib.Dec.{leb, ltb, eqb}
+use lib.Dec.{leb, eqb}
 use lib.ListN.{length}
-use Rattle.model.specs.Format.{byte, u16, guardOk, Reader, readRecord, BinHead, binHead, binTests, defaultsWith}
+use Rattle.model.specs.Format.{byte, u16, Reader, readRecord, BinHead, binHead, binTests, defaultsWith}
 use Rattle.ranges.specs.Types.{Wide}
 use Rattle.check_values.specs.declared.bins.Bin.{Bin}
 
@@ -18,11 +18,6 @@ defaultsUpTo s base (suc i) = defaultsWith (binHead s (base + 8 * i)) (defaultsU
 abbrev pub fieldsAt : List ℕ → ℕ → Bin
 fieldsAt s at =
     record { point = byte s at; kind = byte s (at + 1); form = byte s (at + 2); number = u16 s (at + 3); guard = byte s (at + 5); ranges = u16 s (at + 6) }
-
--- the bin is a cover or an illegal bin of form 0 of one of the points, and its other fields are sound
-unfoldable pub plainBin : ℕ → Bin → Bool
-plainBin points b =
-    ((((eqb (b .form) 0 && eqb (b .number) 0) && (eqb (b .kind) 0 || eqb (b .kind) 2)) && ltb (b .point) points) && guardOk (b .guard)) && leb 1 (b .ranges)
 
 -- bin i of those from `base` on
 unfoldable pub readBin : List ℕ → ℕ → ℕ → ℕ → Reader BinHead

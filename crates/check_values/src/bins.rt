@@ -5,7 +5,6 @@ use words::bytes::read2;
 use words::bytes::whole2;
 use words::counts::section_count;
 use words::guards::bin_guard_ok;
-use words::guards::guard_ok;
 use words::verdicts::Verdict;
 use words::verdicts::fault;
 use words::verdicts::pick;
@@ -19,7 +18,7 @@ ghost use lib.ListN.{length};
 ghost use Rattle.model.specs.Lists.{any};
 ghost use Rattle.model.specs.Format.{firstDefault, binHead, binRules, readBinHeads, readBinSection};
 ghost use Rattle.words.specs.Verdicts.{verdict, verdictOf, verdictIn};
-ghost use Rattle.check_values.specs.Places.{defaultsUpTo, fieldsAt, plainBin, readBin, isDefaultOf};
+ghost use Rattle.check_values.specs.Places.{defaultsUpTo, fieldsAt, readBin, isDefaultOf};
 
 // Whether the bin at at is a default of point p.
 fn default_at(t: &[u8], at: usize, p: u8) -> bool
@@ -83,19 +82,6 @@ fn bin_at(t: &[u8], at: usize) -> Bin
     }
 }
 
-// Whether it is a cover or an illegal bin of form 0 that is sound: most bins are, and need no more tests.
-fn plain_bin(points: usize, bin: Bin) -> bool
-    ensures { λ r. ⌜ r ≡ plainBin points bin ⌝ }
-{
-    let kind = bin.kind;
-    let form = bin.form;
-    let number = bin.number;
-    let ranges = bin.ranges;
-    let known = (bin.point as usize) < points;
-    let guarded = guard_ok(bin.guard);
-    (form == 0) & (number == 0) & ((kind == 0) | (kind == 2)) & known & guarded & (1 <= ranges)
-}
-
 // The tests on a bin's fields; first says that it is no second default.
 fn bin_rules(points: usize, bin: Bin, first: bool, at: usize) -> Verdict
     requires { ⌜ at ≤ 65536 ⌝ }
@@ -110,18 +96,20 @@ fn bin_rules(points: usize, bin: Bin, first: bool, at: usize) -> Verdict
     let kinds = kind <= 3;
     let forms = form <= 2;
     let single = (kind == 0) | (form == 0);
-    let numbered = !(form == 2) | ((1 <= number) & (number <= 256));
-    let plain = (form == 2) | (number == 0);
+    let dealt = form == 2;
+    let some = (1 <= number) & (number <= 256);
+    let none = number == 0;
+    let numbered = pick(dealt, some, none);
     let guarded = bin_guard_ok(kind, bin.guard);
     let owns = pick(kind == 3, ranges == 0, 1 <= ranges);
-    if known & kinds & forms & single & numbered & plain & guarded & owns & first {
+    if known & kinds & forms & single & numbered & guarded & owns & first {
         return end;
     }
     let r9 = test(first, 7, at, end);
     let r8 = test(owns, 3, at + 6, r9);
     let r7 = test(guarded, 6, at + 5, r8);
-    let r6 = test(plain, 5, at + 3, r7);
-    let r5 = test(numbered, 6, at + 3, r6);
+    let r6 = test(dealt | none, 5, at + 3, r7);
+    let r5 = test(!dealt | some, 6, at + 3, r6);
     let r4 = test(single, 6, at + 2, r5);
     let r3 = test(forms, 6, at + 2, r4);
     let r2 = test(kinds, 6, at + 1, r3);
@@ -138,8 +126,13 @@ fn bin_fault(t: &[u8], points: usize, base: usize, i: usize) -> Verdict
         return fault(2, at);
     }
     let bin = bin_at(t, at);
-    if plain_bin(points, bin) {
-        return sound(at + 8);
+    let kind = bin.kind;
+    let form = bin.form;
+    if form == 0 {
+        if (kind == 0) | (kind == 2) {
+            // Most bins are such, and none of them is a default. With one test inside the other the compiler leaves out rules that they decide.
+            return bin_rules(points, bin, true, at);
+        }
     }
     let first = first_default(t, base, i);
     bin_rules(points, bin, first, at)

@@ -1,6 +1,7 @@
 // Counts of sections.
-use crate::bytes::read2;
+use crate::bytes::whole2;
 use crate::verdicts::Verdict;
+use crate::verdicts::fault;
 use crate::verdicts::sound;
 use crate::verdicts::test;
 ghost use mathlib.Core.Path.{_≡_};
@@ -14,10 +15,11 @@ pub fn section_count(t: &[u8], lo: u16, hi: u16, at: usize) -> Verdict
     ensures { λ r. ⌜ r ≡ verdictOf (sectionCount (now (t .entry)) lo hi at) ⌝ }
 {
     let end = at + 2;
-    let whole = end <= t.len();
-    let n = read2(t, at);
-    let a = test((lo <= n) & (n <= hi), 3, at, sound(end));
-    test(whole, 2, at, a)
+    if t.len() < end {
+        return fault(2, at);
+    }
+    let n = whole2(t, at);
+    test((lo <= n) & (n <= hi), 3, at, sound(end))
 }
 
 pub fn owned_count(t: &[u8], hi: u16, sum: usize, at: usize) -> Verdict
@@ -25,9 +27,10 @@ pub fn owned_count(t: &[u8], hi: u16, sum: usize, at: usize) -> Verdict
     ensures { λ r. ⌜ r ≡ verdictOf (ownedCount (now (t .entry)) hi sum at) ⌝ }
 {
     let end = at + 2;
-    let whole = end <= t.len();
-    let n = read2(t, at);
+    if t.len() < end {
+        return fault(2, at);
+    }
+    let n = whole2(t, at);
     let b = test(n as usize == sum, 7, at, sound(end));
-    let a = test(n <= hi, 3, at, b);
-    test(whole, 2, at, a)
+    test(n <= hi, 3, at, b)
 }

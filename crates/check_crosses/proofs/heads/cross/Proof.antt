@@ -1,6 +1,6 @@
 use Rattle.model.specs.Format.{readCross}
 use Rattle.words.proofs.Laws.{record-cut}
-use Rattle.check_crosses.proofs.CrossLaws.{sound-cross, cross-whole}
+use Rattle.check_crosses.proofs.CrossLaws.{cross-whole}
 use borrow.Author.Needs.{needs}
 use Rattle.check_crosses.proofs.heads.cross.Statement.{statement}
 use Rattle.check_crosses.proofs.heads.cross.Tie as tie
@@ -14,18 +14,6 @@ fault-requires c κs = search needs
 returns : tie.Need-returns
 unfolding readCross
 returns c = record-cut _ _ _ _ _ _ (c .before .if1 .taken) (c .fault .ensures)
-
-sound-cross-requires : tie.Need-sound-cross-requires
-sound-cross-requires c κs = search needs
-
-add-sound : tie.Need-add-sound
-add-sound c = search needs
-
-sound-requires : tie.Need-sound-requires
-sound-requires c κs = search needs
-
-returns-2 : tie.Need-returns-2
-returns-2 c = sound-cross _ _ _ _ _ (search needs) (c .before .before .sound-cross .ensures) (c .before .if2 .taken) (c .sound .ensures)
 
 inside-requires : tie.Need-inside-requires
 inside-requires c κs = search needs
@@ -48,8 +36,8 @@ point-test-requires-4 c κs = search needs
 test-requires : tie.Need-test-requires
 test-requires c κs = search needs
 
-returns-3 : tie.Need-returns-3
-returns-3 c = cross-whole _ _ _ _ (c .before .before .before .before .before .before .before .before .before .if1 .left) (rw (c .test .ensures, c .before .point-test4 .ensures, c .before .before .point-test3 .ensures, c .before .before .before .point-test2 .ensures, c .before .before .before .before .point-test .ensures, c .before .before .before .before .before .cross-end .ensures, c .before .before .before .before .before .before .inside .ensures))
+returns-2 : tie.Need-returns-2
+returns-2 c = cross-whole _ _ _ _ (c .before .before .before .before .before .before .before .if1 .left) (rw (c .test .ensures, c .before .point-test4 .ensures, c .before .before .point-test3 .ensures, c .before .before .before .point-test2 .ensures, c .before .before .before .before .point-test .ensures, c .before .before .before .before .before .cross-end .ensures, c .before .before .before .before .before .before .inside .ensures))
 
 pub cross-spec : {M : Type 1} → statement M
 cross-spec =
@@ -58,10 +46,6 @@ cross-spec =
     add-if1
     fault-requires
     returns
-    sound-cross-requires
-    add-sound
-    sound-requires
-    returns-2
     inside-requires
     cross-end-requires
     point-test-requires
@@ -69,4 +53,4 @@ cross-spec =
     point-test-requires-3
     point-test-requires-4
     test-requires
-    returns-3)
+    returns-2)

@@ -1,4 +1,5 @@
 use Rattle.words.specs.Verdicts.{verdictIn}
+use Rattle.words.proofs.Laws.{passing, passed}
 use Rattle.check_crosses.specs.Crosses.{crossEnd}
 use borrow.Author.Needs.{needs}
 use Rattle.check_crosses.proofs.heads.cross_end.Statement.{statement}
@@ -34,6 +35,10 @@ add-sound c = search needs
 sound-requires : tie.Need-sound-requires
 sound-requires c κs = search needs
 
+returns : tie.Need-returns
+unfolding crossEnd passing
+returns c = passed _ _ _ _ (c .before .sound .ensures) (c .if1 .taken) (rw (c .before .before .guard-ok .ensures, c .before .before .before .inside2 .ensures, c .before .before .before .before .read4 .ensures, c .before .before .before .before .before .inside .ensures, c .before .before .before .before .before .before .points-differ .ensures))
+
 test-requires : tie.Need-test-requires
 test-requires c κs = search needs
 
@@ -55,9 +60,9 @@ add-test-3 c = search needs
 test-requires-4 : tie.Need-test-requires-4
 test-requires-4 c κs = search needs
 
-returns : tie.Need-returns
+returns-2 : tie.Need-returns-2
 unfolding verdictIn crossEnd
-returns c = rw (c .test4 .ensures, c .before .test3 .ensures, c .before .before .test2 .ensures, c .before .before .before .test .ensures, c .before .before .before .before .sound .ensures, c .before .before .before .before .before .guard-ok .ensures, c .before .before .before .before .before .before .inside2 .ensures, c .before .before .before .before .before .before .before .read4 .ensures, c .before .before .before .before .before .before .before .before .inside .ensures, c .before .before .before .before .before .before .before .before .before .points-differ .ensures)
+returns-2 c = rw (c .test4 .ensures, c .before .test3 .ensures, c .before .before .test2 .ensures, c .before .before .before .test .ensures, c .before .before .before .before .before .sound .ensures, c .before .before .before .before .before .before .guard-ok .ensures, c .before .before .before .before .before .before .before .inside2 .ensures, c .before .before .before .before .before .before .before .before .read4 .ensures, c .before .before .before .before .before .before .before .before .before .inside .ensures, c .before .before .before .before .before .before .before .before .before .before .points-differ .ensures)
 
 pub cross-end-spec : {M : Type 1} → statement M
 cross-end-spec =
@@ -73,6 +78,7 @@ cross-end-spec =
     guard-ok-requires
     add-sound
     sound-requires
+    returns
     test-requires
     add-test
     test-requires-2
@@ -80,4 +86,4 @@ cross-end-spec =
     test-requires-3
     add-test-3
     test-requires-4
-    returns)
+    returns-2)

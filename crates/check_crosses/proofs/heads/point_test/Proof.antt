@@ -1,5 +1,5 @@
 use Rattle.words.specs.Verdicts.{verdictIn}
-use Rattle.words.proofs.Laws.{verdict-in-choice}
+use borrow.Author.Tests.{lt-ltb, le-ltb}
 use borrow.Author.Needs.{needs}
 use Rattle.check_crosses.proofs.heads.point_test.Statement.{statement}
 use Rattle.check_crosses.proofs.heads.point_test.Tie as tie
@@ -25,15 +25,16 @@ cast-n c = search needs
 test-requires : tie.Need-test-requires
 test-requires c κs = search needs
 
+returns : tie.Need-returns
+unfolding verdictIn
+returns c = rw (c .test .ensures, ← c .before .before .inside2 .ensures, lt-ltb _ _ (c .before .if1 .taken), c .before .before .before .inside .ensures)
+
 test-requires-2 : tie.Need-test-requires-2
 test-requires-2 c κs = search needs
 
-choose-requires : tie.Need-choose-requires
-choose-requires c κs = search needs
-
-returns : tie.Need-returns
+returns-2 : tie.Need-returns-2
 unfolding verdictIn
-returns c = rw (verdict-in-choice, c .choose .ensures, c .before .test2 .ensures, c .before .before .test .ensures, c .before .before .before .inside2 .ensures, c .before .before .before .before .inside .ensures)
+returns-2 c = rw (c .test2 .ensures, ← c .before .before .inside2 .ensures, le-ltb _ _ (c .before .if1 .left), c .before .before .before .inside .ensures)
 
 pub point-test-spec : {M : Type 1} → statement M
 point-test-spec =
@@ -46,6 +47,6 @@ point-test-spec =
     inside-requires-2
     cast-n
     test-requires
+    returns
     test-requires-2
-    choose-requires
-    returns)
+    returns-2)

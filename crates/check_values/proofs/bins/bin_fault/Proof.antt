@@ -1,6 +1,6 @@
 use Rattle.words.proofs.Laws.{record-cut, record-whole}
 use Rattle.check_values.specs.Places.{readBin}
-use Rattle.check_values.proofs.BinLaws.{plain-read}
+use Rattle.check_values.proofs.BinLaws.{first-plain}
 use borrow.Author.Needs.{needs}
 use Rattle.check_values.proofs.bins.bin_fault.Statement.{statement}
 use Rattle.check_values.proofs.bins.bin_fault.Tie as tie
@@ -24,27 +24,22 @@ returns c = record-cut _ _ _ _ _ _ (c .before .if1 .taken) (c .fault .ensures)
 bin-at-requires : tie.Need-bin-at-requires
 bin-at-requires c κs = search needs
 
-plain-bin-requires : tie.Need-plain-bin-requires
-plain-bin-requires c κs = search needs
-
-add-sound : tie.Need-add-sound
-add-sound c = search needs
-
-sound-requires : tie.Need-sound-requires
-sound-requires c κs = search needs
+bin-rules-requires : tie.Need-bin-rules-requires
+bin-rules-requires c κs = search needs
 
 returns-2 : tie.Need-returns-2
-returns-2 c = plain-read _ _ _ _ _ _ _ (search needs) (c .before .before .before .bin-at .ensures) (c .before .before .plain-bin .ensures) (c .before .if2 .taken) (c .sound .ensures)
+unfolding readBin
+returns-2 c = record-whole _ _ _ _ _ _ (search needs) (rw (c .bin-rules .ensures, c .before .before .before .bin-at .ensures, first-plain _ _ _ (c .before .before .before .bin-at .ensures) (c .before .if3 .taken)))
 
 first-default-requires : tie.Need-first-default-requires
 first-default-requires c κs = search needs
 
-bin-rules-requires : tie.Need-bin-rules-requires
-bin-rules-requires c κs = search needs
+bin-rules-requires-2 : tie.Need-bin-rules-requires-2
+bin-rules-requires-2 c κs = search needs
 
 returns-3 : tie.Need-returns-3
 unfolding readBin
-returns-3 c = record-whole _ _ _ _ _ _ (search needs) (rw (c .bin-rules .ensures, c .before .first-default .ensures, c .before .before .before .before .bin-at .ensures))
+returns-3 c = record-whole _ _ _ _ _ _ (search needs) (rw (c .bin-rules2 .ensures, c .before .first-default .ensures, c .before .before .before .bin-at .ensures))
 
 pub bin-fault-spec : {M : Type 1} → statement M
 bin-fault-spec =
@@ -56,10 +51,8 @@ bin-fault-spec =
     fault-requires
     returns
     bin-at-requires
-    plain-bin-requires
-    add-sound
-    sound-requires
+    bin-rules-requires
     returns-2
     first-default-requires
-    bin-rules-requires
+    bin-rules-requires-2
     returns-3)

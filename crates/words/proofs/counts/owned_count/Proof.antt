@@ -1,5 +1,5 @@
 use Rattle.words.specs.Verdicts.{verdictIn}
-use Rattle.words.proofs.Laws.{verdict-record}
+use Rattle.words.proofs.Laws.{record-cut, record-whole}
 use borrow.Author.Needs.{needs}
 use Rattle.words.proofs.counts.owned_count.Statement.{statement}
 use Rattle.words.proofs.counts.owned_count.Tie as tie
@@ -7,8 +7,14 @@ use Rattle.words.proofs.counts.owned_count.Tie as tie
 add-end : tie.Need-add-end
 add-end c = search needs
 
-read2-requires : tie.Need-read2-requires
-read2-requires c κs = search needs
+fault-requires : tie.Need-fault-requires
+fault-requires c κs = search needs
+
+returns : tie.Need-returns
+returns c = record-cut _ _ _ _ _ _ (c .before .if1 .taken) (c .fault .ensures)
+
+whole2-requires : tie.Need-whole2-requires
+whole2-requires c κs = search needs
 
 cast-test : tie.Need-cast-test
 cast-test c = search needs
@@ -22,22 +28,20 @@ test-requires c κs = search needs
 test-requires-2 : tie.Need-test-requires-2
 test-requires-2 c κs = search needs
 
-test-requires-3 : tie.Need-test-requires-3
-test-requires-3 c κs = search needs
-
-returns : tie.Need-returns
+returns-2 : tie.Need-returns-2
 unfolding verdictIn
-returns c = rw (verdict-record, c .test3 .ensures, c .before .test2 .ensures, c .before .before .test .ensures, c .before .before .before .sound .ensures, c .before .before .before .before .read2 .ensures)
+returns-2 c = record-whole _ _ _ _ _ _ (search needs) (rw (c .test2 .ensures, c .before .test .ensures, c .before .before .sound .ensures, c .before .before .before .whole2 .ensures))
 
 pub owned-count-spec : {M : Type 1} → statement M
 owned-count-spec =
     tie.close
     (tie.spec
     add-end
-    read2-requires
+    fault-requires
+    returns
+    whole2-requires
     cast-test
     sound-requires
     test-requires
     test-requires-2
-    test-requires-3
-    returns)
+    returns-2)
