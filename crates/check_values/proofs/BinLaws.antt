@@ -16,7 +16,7 @@ use Rattle.model.specs.Format.{Read, got, andThen, byte, BinHead, binHead, binT
 use Rattle.words.specs.Verdicts.{verdict, verdictOf}
 use Rattle.words.specs.declared.verdicts.Verdict.{Verdict}
 use Rattle.words.proofs.Laws.{verdict-stop, verdict-done, record-got, sound-record, class-of}
-use Rattle.model.proofs.Booleans.{and-right, false-true}
+use Rattle.model.proofs.Booleans.{false-true}
 use Rattle.model.proofs.Fields.{default-kind}
 use Rattle.model.proofs.Lists.{none-left, one-left}
 use Rattle.check_values.specs.Places.{defaultsUpTo, fieldsAt, readBin, isDefaultOf}
@@ -121,7 +121,7 @@ plain-kind (suc (suc (suc kind))) e =
     absurd (false-true (sym (ap₂ _||_ a b) ∙ e))
 
 -- a cover or an illegal bin is no default
-pub first-plain : (s : List ℕ) (base i : ℕ) {bin : Bin} → bin ≡ fieldsAt s (base + 8 * i) → (eqb (bin .form) 0 && (eqb (bin .kind) 0 || eqb (bin .kind) 2)) ≡ true
+pub first-plain : (s : List ℕ) (base i : ℕ) {bin : Bin} → bin ≡ fieldsAt s (base + 8 * i) → (eqb (bin .kind) 0 || eqb (bin .kind) 2) ≡ true
     → firstDefault (binHead s (base + 8 * i)) (defaultsUpTo s base i) ≡ true
 first-plain s base i {bin} e h =
-    sym (first-none s base i (bin .kind) (ap (λ (b : Bin). b .kind) e) (plain-kind (bin .kind) (and-right (eqb (bin .form) 0) (eqb (bin .kind) 0 || eqb (bin .kind) 2) h)))
+    sym (first-none s base i (bin .kind) (ap (λ (b : Bin). b .kind) e) (plain-kind (bin .kind) h))

@@ -128,9 +128,11 @@ fn bin_fault(t: &[u8], points: usize, base: usize, i: usize) -> Verdict
     let bin = bin_at(t, at);
     let kind = bin.kind;
     let form = bin.form;
-    if (form == 0) & ((kind == 0) | (kind == 2)) {
-        // Most bins are such, and none of them is a default. The compiler leaves out the tests that kind and form decide.
-        return bin_rules(points, bin, true, at);
+    if form == 0 {
+        if (kind == 0) | (kind == 2) {
+            // Most bins are such, and none of them is a default. With one test inside the other the compiler leaves out rules that they decide.
+            return bin_rules(points, bin, true, at);
+        }
     }
     let first = first_default(t, base, i);
     bin_rules(points, bin, first, at)

@@ -1,5 +1,4 @@
 // The entries of a log, one after the other; samples that follow one another, by blocks.
-use turns::Taken;
 use log::GOING;
 use log::Log;
 use log::OF_NO_KIND;
@@ -15,6 +14,7 @@ use log::samples::put_samples;
 use log::stopped;
 use places::put_of_kind;
 use report::illegals::say_reports;
+use turns::Taken;
 use values::fields::word;
 use words::bytes::read4;
 ghost use mathlib.Core.Path.{_≡_};

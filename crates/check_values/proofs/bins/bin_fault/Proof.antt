@@ -29,7 +29,7 @@ bin-rules-requires c κs = search needs
 
 returns-2 : tie.Need-returns-2
 unfolding readBin
-returns-2 c = record-whole _ _ _ _ _ _ (search needs) (rw (c .bin-rules .ensures, c .before .before .bin-at .ensures, first-plain _ _ _ (c .before .before .bin-at .ensures) (c .before .if2 .taken)))
+returns-2 c = record-whole _ _ _ _ _ _ (search needs) (rw (c .bin-rules .ensures, c .before .before .before .bin-at .ensures, first-plain _ _ _ (c .before .before .before .bin-at .ensures) (c .before .if3 .taken)))
 
 first-default-requires : tie.Need-first-default-requires
 first-default-requires c κs = search needs
