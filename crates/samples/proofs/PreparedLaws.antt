@@ -1,16 +1,21 @@
 -- The rows of the sequences and, behind them, the plan of the values.
 -- Assumes nothing.
-use mathlib.Core.Path.{_≡_, sym, ap, _∙_, subst}
+use mathlib.Core.Path.{_≡_, refl, sym, ap, _∙_, subst}
+use mathlib.Core.Bool.{true}
 use mathlib.Core.List.{List, _++_}
 use Prim.Native.Nat.{ℕ, _+_, _-_, _≤_, _<_}
 use native.Mathlib.Omega.{arith}
 use lib.ListN.{length, getD, take, drop, set, length-set, length-drop, length-append}
 use lib.Seq.{getD-set-same, getD-set-other, length-take-le}
 use Rattle.model.specs.Table.{Table}
+use Rattle.model.specs.Format.{accepted, tableOf}
 use Rattle.model.specs.Register.{pointTotal}
 use Rattle.arrays.specs.Put.{put}
 use Rattle.arrays.proofs.PutLaws.{front-put}
+use Rattle.layout.specs.Places.{layoutOf, transitionSectionOf}
+use Rattle.layout.specs.declared.Section.{Section}
 use Rattle.runs.specs.Rows.{sequenceRows, SequencesAt}
+use Rattle.runs.proofs.Ready.{bins-counted}
 use Rattle.lists.specs.Lists.{Ready}
 use Rattle.lists.proofs.Fronts.{back-front, back-rest, lent-all, lent-length}
 use Rattle.lists.proofs.PlannedLaws.{ready-set}
@@ -24,6 +29,10 @@ lent t plan lists p m e =
     let k = e ∙ p .rows in
     let fit : m ≤ length plan = omega (arith, k, p .sequences .1) in
     (fit, subst (λ (x : List ℕ). Ready t x lists) (sym (lent-all m plan fit ∙ ap (λ (n : ℕ). drop n plan) k)) (p .ready))
+
+-- the transition bins are as many as their section has
+pub bins-told : (s : List ℕ) → accepted s ≡ true → (l : Section) → l ≡ transitionSectionOf s → l .count ≡ length (tableOf s .transitionBins)
+bins-told s ok l e = ap (λ (x : Section). x .count) e ∙ bins-counted s ok (layoutOf s) refl
 
 -- the rows were put first, then the plan of the values z, then two elements of the lists
 module _ (t : Table) (few : pointTotal t ≤ 16) (plan₀ plan₁ : List ℕ) (m : ℕ) (em : m ≡ length (sequenceRows t)) (fit : m ≤ length plan₀) (e₁ : plan₁ ≡ put 0 (sequenceRows t) plan₀) (same : length plan₁ ≡ length plan₀)

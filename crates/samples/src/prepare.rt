@@ -1,5 +1,5 @@
 // What is needed of a table for its samples, worked out once.
-use layout::layout_of;
+use layout::transition_section;
 use lists::BINS_AT;
 use lists::ROWS_AT;
 use lists::put_ready;
@@ -21,9 +21,9 @@ pub fn prepare(plan: &mut [u64], lists: &mut [u16], t: &[u8], kinds: &[u8], x: I
     requires { ⌜ (accepted (now t) ≡ true) × Indexed (tableOf (now t)) x × Labelled (tableOf (now t)) (now kinds) × (length (sequenceRows (tableOf (now t))) + planNeed (tableOf (now t)) ≤ length (now plan)) × (listsNeed (tableOf (now t)) ≤ length (now lists)) ⌝ }
     ensures { λ _. ⌜ Prepared (tableOf (now (t .entry))) (now (plan .exit)) (now (lists .exit)) × (length (now (plan .exit)) ≡ length (now (plan .entry))) × (length (now (lists .exit)) ≡ length (now (lists .entry))) ⌝ }
 {
-    let l = layout_of(t);
+    let l = transition_section(t);
     let m = put_sequences(plan, 0, t);
     put_ready(&mut plan[m..], lists, t, kinds, x);
-    lists[BINS_AT] = l.transition_count as u16;
+    lists[BINS_AT] = l.count as u16;
     lists[ROWS_AT] = m as u16;
 }

@@ -5,15 +5,14 @@ use lib.ListN.{length, length-set}
 use Rattle.model.specs.Format.{tableOf}
 use Rattle.model.proofs.RawExact.{few-points}
 use Rattle.runs.specs.Rows.{sequenceRows}
-use Rattle.runs.proofs.Ready.{bins-counted}
 use Rattle.runs.proofs.RowSizes.{rows-few}
-use Rattle.samples.proofs.PreparedLaws.{prepared, long}
+use Rattle.samples.proofs.PreparedLaws.{bins-told, prepared, long}
 use borrow.Author.Needs.{needs}
 use Rattle.samples.proofs.prepare.prepare.Statement.{statement}
 use Rattle.samples.proofs.prepare.prepare.Tie as tie
 
-layout-of-requires : tie.Need-layout-of-requires
-layout-of-requires c κs = search needs
+transition-section-requires : tie.Need-transition-section-requires
+transition-section-requires c κs = search needs
 
 put-sequences-requires : tie.Need-put-sequences-requires
 put-sequences-requires c κs = search needs
@@ -61,14 +60,14 @@ returns c =
     let p = c .before .before .before .before .before .before .before .before .before .before .before .before .before .before .before .before .before .pre in
     let s = a .t .now in
     let t = tableOf s in
-    let l = c .before .before .before .before .before .before .before .before .before .before .before .before .layout-of in
+    let l = c .before .before .before .before .before .before .before .before .before .before .before .before .transition-section in
     let q = c .before .before .before .before .before .before .before .before .before .before .put-sequences in
     let r = c .before .before .before .before .before .put-ready in
     let few = few-points s (p .0) in
     let n : q .result ≡ length (sequenceRows t) = omega (arith, q .ensures .0) in
     let fit : q .result ≤ length (a .plan .now) = omega (arith, n, p .3) in
     let room : 63 < length (r .last .1 .0) = omega (arith, r .ensures .2, p .4) in
-    let bins = bins-counted s (p .0) (l .result) (l .ensures .0) in (
+    let bins = bins-told s (p .0) (l .result) (l .ensures .0) in (
       prepared t few (a .plan .now) (q .last .0) (q .result) n fit (q .ensures .1) (q .kept .0) (r .last .0) (r .last .1 .0) (r .ensures .0) (r .ensures .1) _ bins room,
       long t few (a .plan .now) (q .last .0) (q .result) n fit (q .ensures .1) (q .kept .0) (r .last .0) (r .last .1 .0) (r .ensures .0) (r .ensures .1) _ bins room ∙ q .kept .0,
       simp length-set (r .ensures .2),
@@ -78,7 +77,7 @@ pub prepare-spec : {M : Type 1} → statement M
 prepare-spec =
     tie.close
     (tie.spec
-    layout-of-requires
+    transition-section-requires
     put-sequences-requires
     mul-put-ready
     sub-put-ready
