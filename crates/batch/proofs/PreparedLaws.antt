@@ -1,6 +1,6 @@
 -- The room that what is worked out of a table needs.
 -- Assumes nothing.
-use mathlib.Core.Path.{_≡_}
+use mathlib.Core.Path.{_≡_, refl}
 use mathlib.Core.Bool.{true, _&&_}
 use mathlib.Core.List.{List}
 use Prim.Native.Nat.{ℕ, _+_, _≤_}
@@ -19,7 +19,7 @@ use Rattle.pieces.specs.Plan.{planNeed}
 use Rattle.pieces.proofs.PlanTurns.{plan-need}
 use Rattle.sampling.specs.declared.Index.{Index}
 use Rattle.sampling.specs.Index.{Indexed}
-use Rattle.sampling.proofs.Joins.{plan-within, start-few, both-within}
+use Rattle.sampling.proofs.Joins.{plan-within, both-within}
 use Rattle.samples.proofs.ReportLaws.{illegal-many}
 use Rattle.places.specs.Places.{illegalPlaces}
 use Rattle.batch.specs.Sizes.{Sized, roomFor}
@@ -34,12 +34,9 @@ module _ (s : List ℕ) (ok : accepted s ≡ true) where
   largest-fits = record { plan = omega (arith, plan-need s ok, rows-few s ok); lists = omega (arith, lists-most s ok, few-points s ok, listed-few) }
 
   module _ (x : Index) (own : Indexed (tableOf s) x) where
-    pub index-small : (x .points ≤ 16) × (getD (x .starts) (x .points) 0 ≤ 4096)
-    index-small = (omega (arith, own .points, few-points s ok), start-few s ok (x .starts) (own .starts) (x .points) (own .points))
-
     pub enough : length (sequenceRows (tableOf s)) + planNeed (tableOf s) ≤ roomFor (layoutOf s) x
     unfolding layoutOf
-    enough = omega (arith, plan-within s ok x own, rows-counted s ok)
+    enough = omega (arith, plan-within s ok (layoutOf s .«range_count») refl x own, rows-counted s ok)
 
     module _ (need : ℕ) (is : need ≡ roomFor (layoutOf s) x) where
       pub small-fits : ((leb (x .points) 4 && leb (x .counters) 512) && leb need 768) ≡ true → Sized (tableOf s) 768 3178

@@ -17,4 +17,4 @@ pub record Sized (t : Table) (n m : ℕ) : Type 0 where
 
 -- how many words the rows of the sequences and the plan of the values take at most, by the counts of the sections and the points' counters
 abbrev pub roomFor : Layout → Index → ℕ
-roomFor l x = 2 * l .«transition_count» + 3 * l .«sequence_count» + 2 * l .«step_count» + 4 * l .«step_range_count» + planRoom l x
+roomFor l x = 2 * l .«transition_count» + 3 * l .«sequence_count» + 2 * l .«step_count» + 4 * l .«step_range_count» + planRoom (l .«range_count») x

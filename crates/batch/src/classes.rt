@@ -181,7 +181,7 @@ fn room_for(t: &[u8], x: Index) -> usize
     let l = layout_of(t);
     let bins = 2 * l.transition_count + 3 * l.sequence_count;
     let rows = bins + 2 * l.step_count + 4 * l.step_range_count;
-    rows + plan_words(t, x)
+    rows + plan_words(l.range_count, x)
 }
 
 // The class. kinds and x are the table's.

@@ -2,7 +2,7 @@ use mathlib.Core.Path.{ap}
 use native.Mathlib.Omega.{arith}
 use borrow.Author.Needs.{needs}
 use Rattle.layout.specs.declared.Layout.{Layout}
-use Rattle.batch.proofs.PreparedLaws.{index-small}
+use Rattle.sampling.proofs.Joins.{index-small}
 use Rattle.batch.proofs.classes.room_for.Statement.{statement}
 use Rattle.batch.proofs.classes.room_for.Tie as tie
 
@@ -31,14 +31,17 @@ add-rows-2 : tie.Need-add-rows-2
 add-rows-2 c = search needs
 
 plan-words-requires : tie.Need-plan-words-requires
-plan-words-requires c κs = search needs
+plan-words-requires c κs =
+    let p = c .before .before .before .before .before .before .pre in
+    let few = index-small _ (p .0) _ (p .1) in
+    (c .before .before .before .before .layout-of .ensures .1 .range-count, few .0, few .1)
 
 add-result : tie.Need-add-result
 add-result c =
     let p = c .before .before .before .before .before .before .before .pre in
     let few = index-small _ (p .0) _ (p .1) in
     let l = c .before .before .before .before .before .layout-of in
-    omega (arith, c .plan-words .ensures, few .0, few .1, l .ensures .1 .range-count, ap (λ (y : Layout). y .«range_count») (l .ensures .0))
+    omega (arith, c .plan-words .ensures, few .0, few .1, l .ensures .1 .range-count)
 
 returns : tie.Need-returns
 returns c =
@@ -50,6 +53,7 @@ returns c =
       ap (λ (l : Layout). l .«sequence_count») e,
       ap (λ (l : Layout). l .«step_count») e,
       ap (λ (l : Layout). l .«step_range_count») e,
+      ap (λ (l : Layout). l .«range_count») e,
     )
 
 pub room-for-spec : {M : Type 1} → statement M
