@@ -15,7 +15,8 @@ use Rattle.arrays.specs.Put.{put}
 use Rattle.arrays.proofs.PutLaws.{put-first}
 use Rattle.products.specs.Digits.{digits}
 use Rattle.products.specs.Parts.{gatesOpen, hitBit}
-use Rattle.products.specs.Bytes.{Says, partBit, openOf}
+use Rattle.operators.specs.Operators.{Says}
+use Rattle.products.specs.Bytes.{partBit, openOf}
 use Rattle.products.proofs.Evaluation.{and-bit}
 use Rattle.products.proofs.Tuples.{length-digits}
 

@@ -1,5 +1,5 @@
 // Which products of a cross are hit: those of which each part's gate is 1.
-use crate::joins::and_into;
+use operators::and_into;
 use crate::places::Place;
 use crate::shapes::Shape;
 use crate::spread::spread_part;
@@ -13,7 +13,8 @@ ghost use Rattle.model.specs.Counters.{CoverBin};
 ghost use Rattle.model.specs.Format.{byte as byteAt, tableOf};
 ghost use Rattle.arrays.specs.Flat.{Tells, productHits};
 ghost use Rattle.products.specs.Shapes.{sizesOf, Whole, Fits, Stands};
-ghost use Rattle.products.specs.Bytes.{Says, openOf};
+ghost use Rattle.operators.specs.Operators.{Says};
+ghost use Rattle.products.specs.Bytes.{openOf};
 
 // One position q: the gates of its point, for each product. The cross's points stand from `at` on.
 fn and_gate(stack: &mut [u8], t: &[u8], gate: &[u8], at: usize, q: usize, s: Shape)

@@ -13,7 +13,7 @@ ghost use Rattle.model.specs.Format.{tableOf};
 ghost use Rattle.arrays.specs.Flat.{Origins};
 ghost use Rattle.pieces.specs.Plan.{ValuesPlan};
 ghost use Rattle.products.specs.Shapes.{Fits, Stands};
-ghost use Rattle.products.specs.Bytes.{Says};
+ghost use Rattle.operators.specs.Operators.{Says};
 ghost use Rattle.products.specs.Expressions.{roomFor};
 ghost use Rattle.products.specs.Marks.{Below, addOf, crossMarks, longestBin};
 

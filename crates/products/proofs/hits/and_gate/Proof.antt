@@ -3,7 +3,8 @@ use Prim.Native.Nat.{ℕ, _*_}
 use native.Mathlib.Omega.{arith}
 use lib.Bits.{bitAnd}
 use Rattle.products.specs.Shapes.{sizesOf}
-use Rattle.products.specs.Bytes.{Says, andOf, partBit, openOf}
+use Rattle.operators.specs.Operators.{Says, andOf}
+use Rattle.products.specs.Bytes.{partBit, openOf}
 use Rattle.products.proofs.Parts.{back-low, back-high}
 use borrow.Author.Needs.{needs}
 use Rattle.products.proofs.hits.and_gate.Statement.{statement}
