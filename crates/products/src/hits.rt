@@ -1,9 +1,9 @@
 // Which products of a cross are hit: those of which each part's gate is 1.
-use operators::and_into;
 use crate::places::Place;
 use crate::shapes::Shape;
 use crate::spread::spread_part;
 use arrays::put_same;
+use operators::and_into;
 use words::bytes::byte;
 ghost use mathlib.Core.Path.{_≡_};
 ghost use mathlib.Core.Bool.{Bool};
