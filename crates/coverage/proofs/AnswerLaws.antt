@@ -24,12 +24,12 @@ use Rattle.arrays.specs.Flat.{totalFlags, itemsOf}
 use Rattle.figures.specs.Figures.{item, itemsFrom, groupCase, figureCase}
 use Rattle.figures.specs.declared.Figure.{Figure}
 use Rattle.figures.specs.declared.GroupFigure.{GroupFigure}
-use Rattle.coverage.specs.declared.tally.Tallies.{Tallies}
-use Rattle.coverage.specs.Tallies.{itemTotal, itemCovered, Tallied, ItemNumbers}
+use Rattle.tallies.specs.declared.Tallies.{Tallies}
+use Rattle.tallies.specs.Tallies.{itemTotal, itemCovered, Tallied, ItemNumbers}
 use Rattle.coverage.specs.Items.{leastsOf, itemWith, meanOf, Within}
 use Rattle.coverage.specs.Answers.{itemAnswer, groupAnswer, TalliesOf}
 use Rattle.arrays.proofs.PutLaws.{front-kept}
-use Rattle.coverage.proofs.TallyLaws.{total-exact, covered-exact}
+use Rattle.tallies.proofs.TallyLaws.{total-exact, covered-exact}
 use Rattle.coverage.proofs.ItemLaws.{least-there, items-few}
 use Rattle.coverage.proofs.NumberLaws.{items-below}
 

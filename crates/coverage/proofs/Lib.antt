@@ -1,4 +1,3 @@
 pub mod AnswerLaws
 pub mod ItemLaws
 pub mod NumberLaws
-pub mod TallyLaws

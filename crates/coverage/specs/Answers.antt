@@ -11,7 +11,7 @@ use Rattle.model.specs.Register.{countsOf}
 use Rattle.figures.specs.Figures.{figureCase, groupCase}
 use Rattle.figures.specs.declared.Figure.{Figure}
 use Rattle.figures.specs.declared.GroupFigure.{GroupFigure}
-use Rattle.coverage.specs.declared.tally.Tallies.{Tallies}
+use Rattle.tallies.specs.declared.Tallies.{Tallies}
 
 abbrev pub itemAnswer : Table → List ℕ → ℕ → Figure
 itemAnswer t w i = figureCase (itemFigure t (counters t) (countsOf t w) i)

@@ -1,4 +1,3 @@
 -- The definitions that the contracts cite.
-pub mod Tallies
 pub mod Items
 pub mod Answers

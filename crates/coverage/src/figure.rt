@@ -1,13 +1,13 @@
 // The figures of a register. counters and points are the table's numbers of them.
 use crate::items::mean;
 use crate::items::put_leasts;
-use crate::tally::Tallies;
-use crate::tally::tally_all;
 use figures::Figure;
 use figures::GroupFigure;
 use sampling::put_items;
 use sampling::put_kinds;
 use sampling::put_totals;
+use tallies::Tallies;
+use tallies::tally_all;
 ghost use mathlib.Core.Path.{_≡_};
 ghost use mathlib.Core.Bool.{true};
 ghost use Prim.Native.Nat.{_<_};

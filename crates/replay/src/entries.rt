@@ -76,7 +76,7 @@ fn take_block(
     let block = block_of(bytes, points, n);
     let t = give_samples(register, reports, table, bytes, points, block.count);
     let next = after_block(log, block, t);
-    say_reports(out, illegals, reports, n, t.taken, before + 1, log.entry);
+    say_reports(out, illegals, reports, n, t, before + 1, log.entry);
     next
 }
 

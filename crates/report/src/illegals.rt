@@ -3,6 +3,7 @@ use crate::counters::count_of;
 use arrays::element;
 use streams::out::say;
 use streams::text::say_numbered;
+use turns::Taken;
 use values::fields::word;
 use words::bytes::byte;
 ghost use mathlib.Core.Path.{_≡_};
@@ -69,12 +70,13 @@ pub fn say_reports(
     illegals: &mut [u16],
     reports: &[u32],
     n: usize,
-    taken: usize,
+    t: Taken,
     sample: u64,
     entry: u64,
 )
-    requires { ⌜ (length (now illegals) ≡ 24832) × (n ≤ 12416) × (taken ≤ 9216) × (sample ≤ 4294967296) × (entry < 18446744073709486080) ⌝ }
+    requires { ⌜ (length (now illegals) ≡ 24832) × (n ≤ 12416) × (t .taken ≤ 9216) × (sample ≤ 4294967296) × (entry < 18446744073709486080) ⌝ }
 {
+    let taken = t.taken;
     let mut at = 0;
     let mut i = 0;
     while i < taken {

@@ -6,10 +6,10 @@ use Rattle.report.proofs.illegals.say_reports.Statement.{statement}
 use Rattle.report.proofs.illegals.say_reports.Tie as tie
 
 abbrev Inv-loop : tie.InvT-loop
-Inv-loop out₀ illegals₀ reports n taken sample entry at₀ i₀ out illegals at i = (i ≤ taken) × (at ≤ 12416 * i) × (length out ≡ length out₀) × (length illegals ≡ length illegals₀)
+Inv-loop out₀ illegals₀ reports n sample entry taken at₀ i₀ out illegals at i = (i ≤ taken) × (at ≤ 12416 * i) × (length out ≡ length out₀) × (length illegals ≡ length illegals₀)
 
 abbrev μ-loop : tie.MeasureT-loop
-μ-loop out₀ illegals₀ reports n taken sample entry at₀ i₀ out illegals at i = taken - i
+μ-loop out₀ illegals₀ reports n sample entry taken at₀ i₀ out illegals at i = taken - i
 
 loop-holds : tie.Need-loop-holds Inv-loop μ-loop
 loop-holds c = search needs

@@ -17,7 +17,7 @@ use Rattle.model.specs.Figures.{inTotal, itemOf, atLeast, ofItem, total, covere
 use Rattle.model.proofs.Lists.{part-cons}
 use Rattle.model.proofs.RunBits.{asBit-le, asBit-eqb}
 use Rattle.arrays.specs.Flat.{totalFlags, itemsOf}
-use Rattle.coverage.specs.Tallies.{itemTotal, itemCovered}
+use Rattle.tallies.specs.Tallies.{itemTotal, itemCovered}
 
 -- ---- what is left of a pass
 

@@ -7,7 +7,7 @@ use mathlib.Core.List.{List, [], _∷_}
 use lib.Dec.{leb, eqb}
 use lib.ListN.{length, getD}
 use Rattle.model.specs.Lists.{asBit}
-use Rattle.coverage.specs.declared.tally.Tallies.{Tallies}
+use Rattle.tallies.specs.declared.Tallies.{Tallies}
 
 -- how many counters count in the total of item j
 unfoldable pub itemTotal : ℕ → List ℕ → List ℕ → ℕ

@@ -1,9 +1,9 @@
 use native.Mathlib.Omega.{arith}
 use mathlib.Core.Path.{refl}
-use Rattle.coverage.specs.Tallies.{ItemNumbers}
+use Rattle.tallies.specs.Tallies.{ItemNumbers}
 use borrow.Author.Needs.{needs}
-use Rattle.coverage.proofs.tally.item_at.Statement.{statement}
-use Rattle.coverage.proofs.tally.item_at.Tie as tie
+use Rattle.tallies.proofs.item_at.Statement.{statement}
+use Rattle.tallies.proofs.item_at.Tie as tie
 
 shared-slice-read-result : tie.Need-shared-slice-read-result
 shared-slice-read-result c = search needs

@@ -1,13 +1,13 @@
--- `coverage::tally::tally_all` meets its contract. Assumes nothing.
+-- `tallies::tally_all` meets its contract. Assumes nothing.
 use mathlib.Core.Path.{_≡_, refl}
 use Prim.Native.Nat.{ℕ, _+_, _-_, _≤_, _<_}
 use native.Mathlib.Omega.{arith}
 use borrow.Author.Needs.{needs}
 use lib.ListN.{length, take, drop, getD, length-set, getD-replicate}
-use Rattle.coverage.specs.Tallies.{itemTotal, itemCovered}
-use Rattle.coverage.proofs.TallyLaws.{leftTotal, leftCovered, total-start, covered-start, total-end, covered-end, total-most, covered-most, totals-on, covereds-on}
-use Rattle.coverage.proofs.tally.tally_all.Statement.{statement}
-use Rattle.coverage.proofs.tally.tally_all.Tie as tie
+use Rattle.tallies.specs.Tallies.{itemTotal, itemCovered}
+use Rattle.tallies.proofs.TallyLaws.{leftTotal, leftCovered, total-start, covered-start, total-end, covered-end, total-most, covered-most, totals-on, covereds-on}
+use Rattle.tallies.proofs.tally_all.Statement.{statement}
+use Rattle.tallies.proofs.tally_all.Tie as tie
 
 abbrev Inv-loop : tie.InvT-loop
 Inv-loop items flags register n leasts totals₀ covered₀ i₀ totals covered i =

@@ -3,7 +3,7 @@ use arrays::raised;
 ghost use mathlib.Core.Path.{_≡_};
 ghost use Prim.Native.Nat.{_<_, _≤_, _+_};
 ghost use lib.ListN.{length, take, drop, getD};
-ghost use Rattle.coverage.specs.Tallies.{Tallied, ItemNumbers};
+ghost use Rattle.tallies.specs.Tallies.{Tallied, ItemNumbers};
 
 // By the item's number: a table has at most 24 items.
 pub struct Tallies {
