@@ -15,8 +15,8 @@ use Rattle.layout.specs.Places.{layoutOf}
 use Rattle.lists.proofs.SizeLaws.{illegals-most, lists-size, lists-most}
 use Rattle.runs.specs.Rows.{sequenceRows}
 use Rattle.runs.proofs.RowSizes.{rows-few, rows-counted}
-use Rattle.pieces.specs.Plan.{planNeed}
-use Rattle.pieces.proofs.PlanTurns.{plan-need}
+use Rattle.meets.specs.Plan.{planNeed}
+use Rattle.meets.proofs.PlanRoom.{plan-need}
 use Rattle.sampling.specs.declared.Index.{Index}
 use Rattle.sampling.specs.Index.{Indexed}
 use Rattle.sampling.proofs.Joins.{plan-within, both-within}

@@ -4,7 +4,7 @@ use Prim.Native.Nat.{ℕ, _+_, _*_, _≤_}
 use lib.ListN.{length}
 use Rattle.model.specs.Table.{Table}
 use Rattle.layout.specs.declared.Layout.{Layout}
-use Rattle.pieces.specs.Plan.{planNeed}
+use Rattle.meets.specs.Plan.{planNeed}
 use Rattle.runs.specs.Rows.{sequenceRows}
 use Rattle.sampling.specs.declared.Index.{Index}
 use Rattle.sampling.specs.Index.{planRoom}

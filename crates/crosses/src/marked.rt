@@ -12,7 +12,7 @@ ghost use lib.ListN.{length, take, drop};
 ghost use Rattle.model.specs.Register.{pointTotal};
 ghost use Rattle.model.specs.Format.{accepted, tableOf};
 ghost use Rattle.arrays.specs.Flat.{Origins, coverCounts};
-ghost use Rattle.pieces.specs.Plan.{ValuesPlan};
+ghost use Rattle.meets.specs.Plan.{ValuesPlan};
 ghost use Rattle.crosses.specs.Marked.{markTotal, Marked};
 
 // One cross after another: bit i of a mark says that the cross's i-th bin selects the product. plan and the start of `lists` are the plan of the table's values;

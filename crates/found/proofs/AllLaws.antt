@@ -22,7 +22,7 @@ use Rattle.arrays.specs.Flat.{covers, Origins, readingCode, readingCodes, Readi
 use Rattle.arrays.proofs.PutLaws.{part-back, put-zero, put-put, put-same, put-cons, put-in, put-before, part-put, drop-put, length-put}
 use Rattle.parts.specs.Words.{planRowsAt}
 use Rattle.parts.specs.Point.{RowsOf}
-use Rattle.pieces.specs.Plan.{segment, PointPlan}
+use Rattle.meets.specs.Plan.{segment, PointPlan}
 use Rattle.places.specs.Places.{hitParts, FoundAt}
 use Rattle.found.specs.Found.{OriginsAt}
 

@@ -18,7 +18,7 @@ ghost use Rattle.model.specs.Raw.{recordsPlace};
 ghost use Rattle.model.specs.Register.{pointTotal, inWidths};
 ghost use Rattle.arrays.specs.Put.{put};
 ghost use Rattle.arrays.specs.Flat.{readingCode, Readings, Origins};
-ghost use Rattle.pieces.specs.Plan.{ValuesPlan};
+ghost use Rattle.meets.specs.Plan.{ValuesPlan};
 ghost use Rattle.places.specs.Places.{hitParts, Found};
 
 // Where the rows, the spans and the pieces of a point begin in the plan.

@@ -14,7 +14,7 @@ use Rattle.model.proofs.Limits.{covers-fewer}
 use Rattle.arrays.specs.Put.{put}
 use Rattle.arrays.specs.Flat.{covers, Origins}
 use Rattle.arrays.proofs.PutLaws.{front-put}
-use Rattle.pieces.specs.Plan.{ValuesPlan}
+use Rattle.meets.specs.Plan.{ValuesPlan}
 use Rattle.crosses.specs.Marked.{Marked}
 use Rattle.places.specs.Places.{PlaceRows, illegalPlaces}
 use Rattle.lists.specs.Lists.{placesAt, startsAt, illegalsAt, countsAt, marksAt, listsNeed, Planned, Ready}

@@ -7,7 +7,7 @@ use lib.ListN.{length, getD, take, drop}
 use Rattle.model.specs.Table.{Table}
 use Rattle.model.specs.Register.{pointTotal, counterTotal}
 use Rattle.arrays.specs.Flat.{pointStarts, coverCounts, Origins}
-use Rattle.pieces.specs.Plan.{ValuesPlan}
+use Rattle.meets.specs.Plan.{ValuesPlan}
 use Rattle.crosses.specs.Marked.{markTotal, Marked}
 use Rattle.places.specs.Places.{PlaceRows, illegalPlaces}
 

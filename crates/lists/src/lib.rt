@@ -14,7 +14,7 @@ ghost use lib.ListN.{length, take};
 ghost use Rattle.model.specs.Format.{accepted, tableOf};
 ghost use Rattle.model.specs.Register.{pointTotal};
 ghost use Rattle.arrays.specs.Put.{put};
-ghost use Rattle.pieces.specs.Plan.{planNeed};
+ghost use Rattle.meets.specs.Plan.{planNeed};
 ghost use Rattle.places.specs.Places.{ofKind, placesFrom};
 ghost use Rattle.sampling.specs.Index.{Indexed, Labelled};
 ghost use Rattle.lists.specs.Lists.{placesAt, countsAt, listsNeed, Planned, Ready};

@@ -34,12 +34,12 @@ use Rattle.parts.specs.Words.{planRowAt, planRowsAt}
 use Rattle.parts.specs.Point.{RowsOf}
 use Rattle.parts.proofs.Back.{plan-same}
 use Rattle.parts.proofs.Plans.{take-put}
-use Rattle.pieces.specs.Pieces.{Piece, piece, packed, pieceAt, piecesAt, Begins, PiecesOf}
+use Rattle.meets.specs.Pieces.{Piece, piece, packed, pieceAt, piecesAt, Begins, PiecesOf}
+use Rattle.meets.specs.Plan.{segment, PointPlan, pointNeed}
+use Rattle.meets.proofs.PlanLaws.{pieces-same}
 use Rattle.pieces.specs.Cuts.{allPieces, rangeWords, pieceWords, Cuttable}
-use Rattle.pieces.specs.Plan.{segment, PointPlan, pointNeed}
 use Rattle.pieces.proofs.WordLaws.{span-back, pattern-back, words-length}
 use Rattle.pieces.proofs.PointPieces.{rows-cuttable, pieces-of, pieces-few}
-use Rattle.pieces.proofs.PlanLaws.{pieces-same}
 
 -- ---- read back
 

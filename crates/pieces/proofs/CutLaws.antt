@@ -11,14 +11,9 @@ use borrow.Author.Tests.{leb-true, leb-false, le-leb, ltb-true, ltb-false, eqb-t
 use Rattle.model.specs.Lists.{any}
 use Rattle.model.specs.Table.{span}
 use Rattle.model.proofs.Booleans.{false-true, and-left, and-right, or-right}
-use Rattle.pieces.specs.Pieces.{Piece, piece, pieceHolds}
+use Rattle.meets.specs.Pieces.{Piece, piece, pieceHolds}
+use Rattle.meets.proofs.FreeLaws.{Finds}
 use Rattle.pieces.specs.Cuts.{stepAt, cutLow, cutHigh, cutsFrom}
-
--- f finds the first number from y up that is not excluded, where that is at most `high`
-pub record Finds (low high : ℕ) (out : ℕ → Bool) (f : ℕ → ℕ) : Type 0 where
-  pub from : (y : ℕ) → low ≤ y → y ≤ f y
-  pub left : (y : ℕ) → low ≤ y → f y ≤ high → out (f y) ≡ false
-  pub below : (y v : ℕ) → low ≤ y → y ≤ v → v ≤ high → out v ≡ false → f y ≤ v
 
 -- ---- the part at a place of a row
 

@@ -2,8 +2,8 @@
 -- Assumes nothing.
 use mathlib.Core.Path.{_≡_, refl, ap, _∙_}
 use mathlib.Core.Bool.{Bool, true, false}
-use mathlib.Core.List.{List, [], _∷_}
-use Prim.Native.Nat.{ℕ, zero, suc, _+_, _-_, _*_, _≤_, _<_}
+use mathlib.Core.List.{List}
+use Prim.Native.Nat.{ℕ, _+_, _-_, _*_, _≤_, _<_}
 use native.Mathlib.Omega.{arith}
 use lib.Dec.{ltb}
 use lib.ListN.{length, getD, set, take, length-set}
@@ -12,15 +12,11 @@ use borrow.Author.Tests.{ltb-true, ltb-false}
 use Rattle.model.specs.Lists.{sumOf, upFrom}
 use Rattle.model.specs.Table.{Table}
 use Rattle.model.specs.Format.{accepted, tableOf}
-use Rattle.model.specs.Raw.{recordCount}
 use Rattle.model.specs.Register.{pointTotal}
-use Rattle.model.proofs.Lists.{from-step, length-upFrom}
+use Rattle.model.proofs.Lists.{from-step}
 use Rattle.model.proofs.RawExact.{few-points}
-use Rattle.arrays.specs.Flat.{covers}
-use Rattle.spans.specs.Point.{rangesListed}
-use Rattle.spans.proofs.Point.{ranges-listed, ranges-most}
-use Rattle.pieces.specs.Plan.{PointPlan, ValuesPlan, pointNeed, planNeed}
-use Rattle.pieces.proofs.PlanLaws.{few-covers}
+use Rattle.meets.specs.Plan.{PointPlan, ValuesPlan, pointNeed, planNeed}
+use Rattle.meets.proofs.PlanRoom.{plan-need}
 use Rattle.pieces.proofs.BuildLaws.{plan-kept}
 
 -- ---- room
@@ -44,28 +40,10 @@ module _ (t : Table) (n p at : ℕ) (h : p < n) (room : at + needFrom t p (n - p
   pub need-next : (end : ℕ) → end ≤ at + pointNeed t p → end + needFrom t (p + 1) (n - (p + 1)) ≤ planNeed t
   need-next end e = omega (arith, one-more)
 
-sum-need : (t : Table) (ps : List ℕ) → sumOf (pointNeed t) ps ≡ 9 * sumOf (rangesListed t) ps + 2 * sumOf (λ p. length (covers t p)) ps + 9 * length ps
-unfolding sumOf
-sum-need t [] = refl
-sum-need t (p ∷ ps) = omega (arith, sum-need t ps)
-
-module _ (s : List ℕ) (ok : accepted s ≡ true) where
-  pub plan-fits : planNeed (tableOf s) ≤ 9 * recordCount s 2 + 2 * sumOf (λ p. length (covers (tableOf s) p)) (upFrom 0 (pointTotal (tableOf s))) + 9 * pointTotal (tableOf s)
-  unfolding planNeed
-  plan-fits = omega (arith, sum-need (tableOf s) (upFrom 0 (pointTotal (tableOf s))), ranges-listed s ok (pointTotal (tableOf s)), length-upFrom 0 (pointTotal (tableOf s)))
-
-  covers-most : (n i : ℕ) → i + n ≤ pointTotal (tableOf s) → sumOf (λ p. length (covers (tableOf s) p)) (upFrom i n) ≤ 256 * n
-  unfolding sumOf upFrom
-  covers-most zero i h = omega arith
-  covers-most (suc n) i h = omega (arith, few-covers s ok i (omega arith), covers-most n (suc i) (omega arith))
-
-  pub plan-need : planNeed (tableOf s) ≤ 17552
-  plan-need = omega (arith, plan-fits, ranges-most s ok, covers-most (pointTotal (tableOf s)) 0 (omega arith), few-points s ok)
-
-  -- at point p
-  pub turn-room : (n p at : ℕ) → n ≡ pointTotal (tableOf s) → p < n → at + needFrom (tableOf s) p (n - p) ≤ planNeed (tableOf s)
-      → (p < pointTotal (tableOf s)) × (p < 16) × (at + pointNeed (tableOf s) p ≤ planNeed (tableOf s)) × (planNeed (tableOf s) ≤ 17552)
-  turn-room n p at e h room = (omega arith, omega (arith, few-points s ok), need-here (tableOf s) n p at h room, plan-need)
+-- at point p
+pub turn-room : (s : List ℕ) → accepted s ≡ true → (n p at : ℕ) → n ≡ pointTotal (tableOf s) → p < n → at + needFrom (tableOf s) p (n - p) ≤ planNeed (tableOf s)
+    → (p < pointTotal (tableOf s)) × (p < 16) × (at + pointNeed (tableOf s) p ≤ planNeed (tableOf s)) × (planNeed (tableOf s) ≤ 17552)
+turn-room s ok n p at e h room = (omega arith, omega (arith, few-points s ok), need-here (tableOf s) n p at h room, plan-need s ok)
 
 -- ---- the first n points are planned, below c
 

@@ -18,13 +18,13 @@ use Rattle.model.proofs.Selects.{own-covers}
 use Rattle.ranges.proofs.Searches.{any-append}
 use Rattle.arrays.specs.Flat.{covers}
 use Rattle.spans.specs.Point.{SpansOf, freeValue}
-use Rattle.spans.proofs.Point.{free-from, free-left, free-below}
 use Rattle.parts.specs.Rows.{Row, placeIn, partIn, partsAt}
 use Rattle.parts.specs.Words.{RowFits}
 use Rattle.parts.specs.Point.{Typed, startOf, endOf, climbs, RowsOf}
-use Rattle.pieces.specs.Pieces.{Piece, piece, pieceHolds, partHolds, Begins, PiecesOf}
+use Rattle.meets.specs.Pieces.{Piece, piece, pieceHolds, partHolds, Begins, PiecesOf}
+use Rattle.meets.proofs.FreeLaws.{Finds, finds-of}
 use Rattle.pieces.specs.Cuts.{leftOf, stepAt, cutLow, cutHigh, cutsFrom, piecesIn, rowPieces, allPieces, Bounded, Cuttable}
-use Rattle.pieces.proofs.CutLaws.{Finds, step-rises, high-most, cuts-sound, cuts-complete}
+use Rattle.pieces.proofs.CutLaws.{step-rises, high-most, cuts-sound, cuts-complete}
 
 all-of : {A : Type 0} (P : A → Type 0) (d : A) (xs : List A) → All P xs → (i : ℕ) → i < length xs → P (getD xs i d)
 all-of P d [] h i k = absurd (omega arith)
@@ -160,16 +160,6 @@ module _ (t : Table) (p : ℕ) (f : ℕ → ℕ) (finds : Finds (lowest (pointAt
               never false false = refl
 
 -- ---- a point
-
-pub finds-of : (t : Table) (p : ℕ) (ws : List ℕ) → SpansOf t p ws → Finds (lowest (pointAt t p)) (highest (pointAt t p)) (excludedValue t p) (freeValue ws (lowest (pointAt t p)))
-finds-of t p ws o = record {
-  from = λ y h. free-from t p ws o y h;
-  left = λ y h k. free-left t p ws o y h (ap₂ _&&_ (le-leb low (freeValue ws low y) (omega (arith, free-from t p ws o y h))) (le-leb (freeValue ws low y) (highest (pointAt t p)) k));
-  below = λ y v h k u e. free-below t p ws o y h v k (ap₂ _&&_ (le-leb low v (omega arith)) (le-leb v (highest (pointAt t p)) u)) e;
-}
-  where
-    low : ℕ
-    low = lowest (pointAt t p)
 
 -- the pieces of its rows are its pieces
 pub pieces-of : (t : Table) (p m : ℕ) (rs : List Row) (ws : List ℕ) → RowsOf t p rs m → SpansOf t p ws → PiecesOf t p (allPieces (freeValue ws (lowest (pointAt t p))) rs)

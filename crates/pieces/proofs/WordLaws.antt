@@ -17,13 +17,10 @@ use Rattle.arrays.proofs.Written.{Written, unwritten}
 use Rattle.parts.specs.Rows.{Row}
 use Rattle.parts.specs.Words.{planRowAt, planRowsAt}
 use Rattle.parts.proofs.Back.{row-same}
-use Rattle.pieces.specs.Pieces.{Piece, piece, packed, highIn, partAbove, pieceBy}
+use Rattle.meets.specs.Pieces.{Piece, piece, packed, highIn, partAbove, pieceBy}
 use Rattle.pieces.specs.Cuts.{leftOf, stepAt, cutLow, cutHigh, cutsFrom, piecesIn, rowPieces, allPieces, rangeWords, pieceWords, Bounded, Cuttable, rowOf, CutsFit}
 
 -- ---- the second word of a piece
-
-pub below-part : (w : ℕ) → w < 2 ^ 49 → w / 2 ^ 33 ≡ partAbove w
-below-part w h = omega arith
 
 module _ (a b k : ℕ) (small : b < 2 ^ 33) (few : k < 65536) where
   pub span-back : pieceBy a (packed b k) ≡ piece (span a b) k

@@ -6,7 +6,7 @@ use mathlib.Core.List.{List, [], _∷_, _++_}
 use lib.Dec.{leb, ltb, eqb}
 use Rattle.model.specs.Table.{Range, span, pattern}
 use Rattle.parts.specs.Rows.{Row, row}
-use Rattle.pieces.specs.Pieces.{Piece, piece, packed}
+use Rattle.meets.specs.Pieces.{Piece, piece, packed}
 
 -- what is left of the span a to b of part k: f finds the first value from a number up that is left
 abbrev pub leftOf : (ℕ → ℕ) → ℕ → ℕ → ℕ → List Piece

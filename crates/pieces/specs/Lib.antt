@@ -1,5 +1,2 @@
 -- The definitions that the contracts cite.
-pub mod Pieces
 pub mod Cuts
-pub mod Met
-pub mod Plan

@@ -1,7 +1,7 @@
 // The plan of the values of a table, built: of each point its rows, its excluded spans and its pieces.
 use crate::cuts::put_pieces;
-use crate::plan::limits_of;
 use layout::bin_sections;
+use meets::plan::limits_of;
 use parts::points::Built;
 use parts::points::put_rows;
 use spans::collects::Bins;
@@ -21,7 +21,7 @@ ghost use Rattle.spans.specs.Point.{SpansOf, rangesListed, excludedListed};
 ghost use Rattle.spans.specs.Part.{OwnPart, OwnBins, OwnParts};
 ghost use Rattle.parts.specs.Words.{planRowsAt};
 ghost use Rattle.parts.specs.Point.{RowsOf};
-ghost use Rattle.pieces.specs.Plan.{PointPlan, ValuesPlan, pointNeed, planNeed};
+ghost use Rattle.meets.specs.Plan.{PointPlan, ValuesPlan, pointNeed, planNeed};
 
 // The excluded spans of point p, whose value bins are among those of `own`, from the start of out. Answers how many.
 fn put_excluded(out: &mut [u64], room: &mut [u64], t: &[u8], own: Bins, p: usize) -> usize

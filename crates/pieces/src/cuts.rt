@@ -12,7 +12,7 @@ ghost use Rattle.arrays.specs.Put.{put};
 ghost use Rattle.spans.specs.Spans.{apart};
 ghost use Rattle.spans.specs.Point.{freeValue};
 ghost use Rattle.parts.specs.Words.{planRowAt, planRowsAt};
-ghost use Rattle.pieces.specs.Pieces.{packed};
+ghost use Rattle.meets.specs.Pieces.{packed};
 ghost use Rattle.pieces.specs.Cuts.{leftOf, cutLow, cutHigh, cutsFrom, rowPieces, allPieces, pieceWords, Cuttable, rowOf, CutsFit};
 
 // A row: kind (0: span), low end or bits, high end or mask, values listed before it in its bin, and its bin's first part, last part (counted from the first) and share.

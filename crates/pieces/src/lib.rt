@@ -1,5 +1,3 @@
-// What is left of the parts of each point, as pieces, and which parts still hold a value from lo to hi.
+// What is left of the parts of each point, cut into pieces, and the plan of the values built.
 pub mod build;
 pub mod cuts;
-pub mod met;
-pub mod plan;

@@ -20,8 +20,8 @@ use Rattle.model.proofs.Lists.{length-row, getD-row, getD-map}
 use Rattle.arrays.specs.Put.{put}
 use Rattle.arrays.specs.Flat.{covers, origin, Origins}
 use Rattle.arrays.proofs.PutLaws.{put-in, put-before}
-use Rattle.pieces.specs.Pieces.{metBit, metBits}
-use Rattle.pieces.proofs.PlanLaws.{few-covers}
+use Rattle.meets.specs.Pieces.{metBit, metBits}
+use Rattle.meets.proofs.PlanLaws.{few-covers}
 use Rattle.products.specs.Told.{leafBit}
 use Rattle.products.specs.Tokens.{tokenPoint, tokenBit, RowTold, RowsTold, Kept, namedBit, namedFrom, Ready, Legal}
 use Rattle.products.specs.Shapes.{sizesOf}

@@ -14,7 +14,7 @@ use Rattle.model.specs.Counters.{CoverBin, noCoverBin, pointAt, meets}
 use Rattle.model.specs.Format.{byte, u16, u64, accepted, tableOf}
 use Rattle.model.specs.Register.{pointTotal}
 use Rattle.arrays.specs.Flat.{covers, Origins}
-use Rattle.pieces.specs.Plan.{ValuesPlan}
+use Rattle.meets.specs.Plan.{ValuesPlan}
 use Rattle.products.specs.Shapes.{sizesOf}
 use Rattle.products.specs.declared.shapes.Shape.{Shape}
 use Rattle.products.specs.Told.{leafBit}

@@ -11,7 +11,7 @@ ghost use Prim.Native.Nat.{_+_, _*_, _<_, _≤_, max};
 ghost use lib.ListN.{length, take, drop};
 ghost use Rattle.model.specs.Format.{tableOf};
 ghost use Rattle.arrays.specs.Flat.{Origins};
-ghost use Rattle.pieces.specs.Plan.{ValuesPlan};
+ghost use Rattle.meets.specs.Plan.{ValuesPlan};
 ghost use Rattle.products.specs.Shapes.{Fits, Stands};
 ghost use Rattle.operators.specs.Operators.{Says};
 ghost use Rattle.products.specs.Expressions.{roomFor};

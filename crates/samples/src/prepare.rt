@@ -10,7 +10,7 @@ ghost use mathlib.Core.Bool.{true};
 ghost use Prim.Native.Nat.{_+_, _≤_};
 ghost use lib.ListN.{length};
 ghost use Rattle.model.specs.Format.{accepted, tableOf};
-ghost use Rattle.pieces.specs.Plan.{planNeed};
+ghost use Rattle.meets.specs.Plan.{planNeed};
 ghost use Rattle.runs.specs.Rows.{sequenceRows};
 ghost use Rattle.sampling.specs.Index.{Indexed, Labelled};
 ghost use Rattle.lists.specs.Lists.{listsNeed};

@@ -28,8 +28,8 @@ use Rattle.layout.specs.Places.{layoutOf}
 use Rattle.layout.specs.declared.Layout.{Layout}
 use Rattle.points.proofs.ItemLaws.{start-read}
 use Rattle.points.proofs.KindExact.{start-low}
-use Rattle.pieces.specs.Plan.{planNeed}
-use Rattle.pieces.proofs.PlanTurns.{plan-fits}
+use Rattle.meets.specs.Plan.{planNeed}
+use Rattle.meets.proofs.PlanRoom.{plan-fits}
 use Rattle.model.proofs.Lists.{length-upFrom}
 use Rattle.arrays.specs.Put.{put}
 use Rattle.arrays.specs.Flat.{hitFlags, totalFlags, kindsOf, kindOf, itemsOf, allPointCounters, allCrossCounters, pointStart, pointStarts, covers, Tells, coverCounts}

@@ -9,7 +9,7 @@ use lib.ListN.{length, getD, take, drop, length-append, length-take, length-drop
 use lib.Seq.{getD-take, take-at, drop-at, length-take-le}
 use borrow.Rule.Slice.PartMut.{putMid, post-is, take-put}
 use Rattle.model.specs.Format.{accepted, tableOf}
-use Rattle.pieces.specs.Plan.{ValuesPlan}
+use Rattle.meets.specs.Plan.{ValuesPlan}
 use Rattle.arrays.specs.Flat.{Origins}
 use Rattle.sampling.proofs.Joins.{gate-room}
 

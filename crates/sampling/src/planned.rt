@@ -2,9 +2,9 @@
 use crate::Index;
 use crosses::marked::mark_all;
 use layout::bin_sections;
+use meets::plan::put_has;
 use origins::put_origins;
 use pieces::build::put_plan;
-use pieces::plan::put_has;
 use spans::part::own_parts;
 ghost use mathlib.Core.Path.{_≡_};
 ghost use mathlib.Core.Bool.{true};
@@ -14,7 +14,7 @@ ghost use Rattle.model.specs.Format.{accepted, tableOf};
 ghost use Rattle.model.specs.Counters.{hasValue};
 ghost use Rattle.model.specs.Register.{pointTotal};
 ghost use Rattle.arrays.specs.Flat.{Tells, Origins};
-ghost use Rattle.pieces.specs.Plan.{planNeed, ValuesPlan};
+ghost use Rattle.meets.specs.Plan.{planNeed, ValuesPlan};
 ghost use Rattle.crosses.specs.Marked.{markTotal, Marked};
 ghost use Rattle.sampling.specs.Index.{Indexed, planRoom};
 

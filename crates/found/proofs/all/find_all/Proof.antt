@@ -8,7 +8,7 @@ use Rattle.model.specs.Register.{pointTotal}
 use Rattle.model.proofs.RawExact.{few-points}
 use Rattle.layout.proofs.PlaceLaws.{points-total}
 use Rattle.places.specs.Places.{Found}
-use Rattle.pieces.proofs.PlanLaws.{point-is, wide-at}
+use Rattle.meets.proofs.PlanLaws.{point-is, wide-at}
 use Rattle.found.proofs.HitLaws.{few-hits}
 use Rattle.found.proofs.AllLaws.{code-at, bins-place, FoundTo, found-turn}
 use Rattle.found.proofs.all.find_all.Statement.{statement}

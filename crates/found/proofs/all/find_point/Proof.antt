@@ -3,7 +3,7 @@ use Prim.Native.Nat.{_*_}
 use native.Mathlib.Omega.{arith}
 use Rattle.model.specs.Format.{tableOf}
 use Rattle.model.proofs.RawExact.{few-points}
-use Rattle.pieces.proofs.PlanLaws.{plan-at, few-covers}
+use Rattle.meets.proofs.PlanLaws.{plan-at, few-covers}
 use Rattle.found.proofs.HitLaws.{few-hits}
 use Rattle.found.proofs.AllLaws.{origins-at, rows-of, row-room, row-back}
 use borrow.Author.Needs.{needs}

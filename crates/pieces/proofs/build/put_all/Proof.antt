@@ -7,8 +7,8 @@ use Rattle.model.specs.Register.{pointTotal}
 use Rattle.model.proofs.RawExact.{few-points}
 use Rattle.spans.proofs.Point.{point-listed}
 use Rattle.spans.proofs.PassLaws.{own-bins}
-use Rattle.pieces.specs.Plan.{planNeed}
-use Rattle.pieces.proofs.PlanLaws.{points-read}
+use Rattle.meets.specs.Plan.{planNeed}
+use Rattle.meets.proofs.PlanLaws.{points-read}
 use Rattle.pieces.proofs.PlanTurns.{needFrom, need-start, need-next, turn-room, PlannedTo, planned-turn, first-start, next-start, all-planned}
 use Rattle.pieces.proofs.build.put_all.Statement.{statement}
 use Rattle.pieces.proofs.build.put_all.Tie as tie

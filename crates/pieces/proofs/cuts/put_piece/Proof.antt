@@ -4,7 +4,7 @@ use Prim.Native.Nat.{_+_}
 use native.Mathlib.Omega.{arith}
 use lib.ListN.{set, length-set}
 use Rattle.arrays.proofs.PutLaws.{put-nil, put-cons}
-use Rattle.pieces.specs.Pieces.{packed}
+use Rattle.meets.specs.Pieces.{packed}
 use borrow.Author.Needs.{needs}
 use Rattle.pieces.proofs.cuts.put_piece.Statement.{statement}
 use Rattle.pieces.proofs.cuts.put_piece.Tie as tie

@@ -1,6 +1,6 @@
 use borrow.Author.Needs.{needs}
 use native.Mathlib.Omega.{arith}
-use Rattle.pieces.proofs.PlanTurns.{plan-need}
+use Rattle.meets.proofs.PlanRoom.{plan-need}
 use Rattle.sampling.proofs.Joins.{gate-room}
 use Rattle.sampling.proofs.planned.largest_plan.Statement.{statement}
 use Rattle.sampling.proofs.planned.largest_plan.Tie as tie

@@ -1,0 +1,5 @@
+pub mod FreeLaws
+pub mod MetLaws
+pub mod SearchLaws
+pub mod PlanLaws
+pub mod PlanRoom
