@@ -20,7 +20,7 @@ ghost use Rattle.model.specs.Format.{pointRecord, binHead, crossPoints, coverBi
 ghost use Rattle.model.specs.Raw.{rows, pointsAt};
 ghost use Rattle.words.specs.Verdicts.{verdict, verdictOf, verdictIn};
 ghost use Rattle.ranges.specs.Types.{Wide, AllWide};
-ghost use Rattle.check_crosses.specs.Crosses.{CrossOk, tokenAt, valueFields};
+ghost use Rattle.check_tokens.specs.Tokens.{CrossOk, tokenAt, valueFields};
 
 // The point at a position of the cross at c; 0 past its points.
 fn point_of(t: &[u8], c: usize, position: u8) -> usize

@@ -5,8 +5,8 @@ use Rattle.model.specs.Format.{binHead, crossPoints, readToken, times}
 use Rattle.model.specs.Raw.{rows, pointsAt}
 use Rattle.words.specs.Verdicts.{verdictOf}
 use Rattle.words.proofs.Laws.{timess}
-use Rattle.check_crosses.proofs.tokens.tokens.Statement.{statement}
-use Rattle.check_crosses.proofs.tokens.tokens.Tie as tie
+use Rattle.check_tokens.proofs.tokens.tokens.Statement.{statement}
+use Rattle.check_tokens.proofs.tokens.tokens.Tie as tie
 
 abbrev Inv-loop : tie.InvT-loop
 Inv-loop t points bins c n start at₀ i₀ at i = (i ≤ n) × (at ≤ length t) × (verdictOf (times n (readToken t (pointsAt t (points .at) (points .count)) (rows (binHead t) 8 (bins .at) (bins .count)) (crossPoints t c)) start) ≡ verdictOf (times (n - i) (readToken t (pointsAt t (points .at) (points .count)) (rows (binHead t) 8 (bins .at) (bins .count)) (crossPoints t c)) at))

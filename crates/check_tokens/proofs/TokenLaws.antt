@@ -24,7 +24,7 @@ use Rattle.model.proofs.Fields.{cover-kind}
 use Rattle.model.proofs.Lists.{none-left, one-left, length-row, getD-row}
 use Rattle.words.proofs.Laws.{passing, passed}
 use Rattle.ranges.specs.Types.{typed}
-use Rattle.check_crosses.specs.Crosses.{CrossOk, valueFields, found, wantedAfter, lacks}
+use Rattle.check_tokens.specs.Tokens.{CrossOk, valueFields, found, wantedAfter, lacks}
 use Rattle.words.proofs.Laws.{verdict-in-append, verdict-in-choice}
 
 -- ---- the point at a position

@@ -1,7 +1,7 @@
-use Rattle.check_crosses.proofs.TokenLaws.{cover-bin}
+use Rattle.check_tokens.proofs.TokenLaws.{cover-bin}
 use borrow.Author.Needs.{needs}
-use Rattle.check_crosses.proofs.tokens.cover_bin.Statement.{statement}
-use Rattle.check_crosses.proofs.tokens.cover_bin.Tie as tie
+use Rattle.check_tokens.proofs.tokens.cover_bin.Statement.{statement}
+use Rattle.check_tokens.proofs.tokens.cover_bin.Tie as tie
 
 mul-at : tie.Need-mul-at
 mul-at c = search needs

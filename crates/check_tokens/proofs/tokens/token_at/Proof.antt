@@ -1,6 +1,6 @@
 use borrow.Author.Needs.{needs}
-use Rattle.check_crosses.proofs.tokens.token_at.Statement.{statement}
-use Rattle.check_crosses.proofs.tokens.token_at.Tie as tie
+use Rattle.check_tokens.proofs.tokens.token_at.Statement.{statement}
+use Rattle.check_tokens.proofs.tokens.token_at.Tie as tie
 
 inside-requires : tie.Need-inside-requires
 inside-requires c κs = search needs

@@ -1,13 +1,13 @@
-use Rattle.check_crosses.proofs.TokenLaws.{wants-on, wanted-small, lacks-some}
+use Rattle.check_tokens.proofs.TokenLaws.{wants-on, wanted-small, lacks-some}
 use native.Mathlib.Omega.{arith}
 use Prim.Native.Nat.{_≤_, _+_, _*_, _-_}
 use mathlib.Core.Path.{_≡_}
 use Rattle.model.specs.Format.{tokenRecord, expressions}
 use Rattle.model.specs.Raw.{rows}
-use Rattle.check_crosses.specs.Crosses.{found}
-use Rattle.check_crosses.proofs.TokenLaws.{wants}
-use Rattle.check_crosses.proofs.selects.one_expression.Statement.{statement}
-use Rattle.check_crosses.proofs.selects.one_expression.Tie as tie
+use Rattle.check_tokens.specs.Tokens.{found}
+use Rattle.check_tokens.proofs.TokenLaws.{wants}
+use Rattle.check_tokens.proofs.expressions.one_expression.Statement.{statement}
+use Rattle.check_tokens.proofs.expressions.one_expression.Tie as tie
 
 abbrev Inv-loop : tie.InvT-loop
 Inv-loop t n start at₀ wanted₀ i₀ at wanted i = (i ≤ n) × (at ≡ start + 20 * i) × (wanted ≤ i + 1) × (found 1 (expressions (rows (tokenRecord t) 20 start n)) ≡ found wanted (expressions (rows (tokenRecord t) 20 at (n - i))))

@@ -1,8 +1,8 @@
 use Rattle.words.proofs.Chain.{whens}
-use Rattle.check_crosses.specs.Crosses.{wantedAfter}
+use Rattle.check_tokens.specs.Tokens.{wantedAfter}
 use borrow.Author.Needs.{needs}
-use Rattle.check_crosses.proofs.selects.wanted_after.Statement.{statement}
-use Rattle.check_crosses.proofs.selects.wanted_after.Tie as tie
+use Rattle.check_tokens.proofs.expressions.wanted_after.Statement.{statement}
+use Rattle.check_tokens.proofs.expressions.wanted_after.Tie as tie
 
 sub-result : tie.Need-sub-result
 sub-result c = search needs

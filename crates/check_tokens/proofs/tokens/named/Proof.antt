@@ -1,7 +1,7 @@
 use borrow.Author.Tests.{eq-eqb, ne-eqb}
 use borrow.Author.Needs.{needs}
-use Rattle.check_crosses.proofs.tokens.named.Statement.{statement}
-use Rattle.check_crosses.proofs.tokens.named.Tie as tie
+use Rattle.check_tokens.proofs.tokens.named.Statement.{statement}
+use Rattle.check_tokens.proofs.tokens.named.Tie as tie
 
 cast-b : tie.Need-cast-b
 cast-b c = search needs

@@ -2,11 +2,11 @@ use mathlib.Core.Path.{refl}
 use borrow.Author.Tests.{eq-eqb, ne-eqb}
 use Rattle.words.specs.Verdicts.{verdictIn}
 use Rattle.words.proofs.Laws.{passing, passed}
-use Rattle.check_crosses.specs.Crosses.{valueFields}
-use Rattle.check_crosses.proofs.TokenLaws.{values-typed}
+use Rattle.check_tokens.specs.Tokens.{valueFields}
+use Rattle.check_tokens.proofs.TokenLaws.{values-typed}
 use borrow.Author.Needs.{needs}
-use Rattle.check_crosses.proofs.tokens.value_fields.Statement.{statement}
-use Rattle.check_crosses.proofs.tokens.value_fields.Tie as tie
+use Rattle.check_tokens.proofs.tokens.value_fields.Statement.{statement}
+use Rattle.check_tokens.proofs.tokens.value_fields.Tie as tie
 
 byte-requires : tie.Need-byte-requires
 byte-requires c κs = search needs

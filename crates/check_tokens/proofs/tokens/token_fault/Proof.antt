@@ -1,10 +1,10 @@
 use native.Mathlib.Omega.{arith}
 use Rattle.model.specs.Format.{readToken}
 use Rattle.words.proofs.Laws.{record-cut, record-whole}
-use Rattle.check_crosses.proofs.TokenLaws.{token-tests, token-named, point-below}
+use Rattle.check_tokens.proofs.TokenLaws.{token-tests, token-named, point-below}
 use borrow.Author.Needs.{needs}
-use Rattle.check_crosses.proofs.tokens.token_fault.Statement.{statement}
-use Rattle.check_crosses.proofs.tokens.token_fault.Tie as tie
+use Rattle.check_tokens.proofs.tokens.token_fault.Statement.{statement}
+use Rattle.check_tokens.proofs.tokens.token_fault.Tie as tie
 
 add-if1 : tie.Need-add-if1
 add-if1 c = search needs

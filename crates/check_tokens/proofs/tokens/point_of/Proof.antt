@@ -1,7 +1,7 @@
-use Rattle.check_crosses.proofs.TokenLaws.{positions}
+use Rattle.check_tokens.proofs.TokenLaws.{positions}
 use borrow.Author.Needs.{needs}
-use Rattle.check_crosses.proofs.tokens.point_of.Statement.{statement}
-use Rattle.check_crosses.proofs.tokens.point_of.Tie as tie
+use Rattle.check_tokens.proofs.tokens.point_of.Statement.{statement}
+use Rattle.check_tokens.proofs.tokens.point_of.Tie as tie
 
 byte-requires : tie.Need-byte-requires
 byte-requires c κs = search needs

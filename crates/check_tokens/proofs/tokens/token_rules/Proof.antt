@@ -1,7 +1,7 @@
-use Rattle.check_crosses.proofs.TokenLaws.{verdict-token-rules, token-passed}
+use Rattle.check_tokens.proofs.TokenLaws.{verdict-token-rules, token-passed}
 use borrow.Author.Needs.{needs}
-use Rattle.check_crosses.proofs.tokens.token_rules.Statement.{statement}
-use Rattle.check_crosses.proofs.tokens.token_rules.Tie as tie
+use Rattle.check_tokens.proofs.tokens.token_rules.Statement.{statement}
+use Rattle.check_tokens.proofs.tokens.token_rules.Tie as tie
 
 pick-requires : tie.Need-pick-requires
 pick-requires c κs = search needs
