@@ -1,6 +1,6 @@
 // Counts that are raised at listed places.
 ghost use mathlib.Core.Path.{_≡_};
-ghost use Rattle.samples.specs.Raises.{raiseEach, Raisable};
+ghost use Rattle.places.specs.Raises.{raiseEach, Raisable};
 
 // One more at each place, counted from at on.
 pub fn raise_each(register: &mut [u32], at: usize, places: &[u16])

@@ -2,10 +2,10 @@ use mathlib.Core.Path.{_≡_, refl, sym, _∙_}
 use Prim.Native.Nat.{_-_, _≤_}
 use native.Mathlib.Omega.{arith}
 use lib.ListN.{length, drop, length-set}
-use Rattle.samples.specs.Raises.{raiseEach, Raisable}
-use Rattle.samples.proofs.RaiseLaws.{raise-there, raise-room, raise-on, raise-turn, raise-end}
-use Rattle.samples.proofs.raises.raise_each.Statement.{statement}
-use Rattle.samples.proofs.raises.raise_each.Tie as tie
+use Rattle.places.specs.Raises.{raiseEach, Raisable}
+use Rattle.places.proofs.RaiseLaws.{raise-there, raise-room, raise-on, raise-turn, raise-end}
+use Rattle.places.proofs.raises.raise_each.Statement.{statement}
+use Rattle.places.proofs.raises.raise_each.Tie as tie
 
 abbrev Inv-loop : tie.InvT-loop
 Inv-loop register₀ at places n i₀ register i =
