@@ -19,7 +19,8 @@ use Rattle.words.specs.Sums.{sumFrom}
 use Rattle.words.specs.declared.verdicts.Verdict.{Verdict}
 use Rattle.words.proofs.Laws.{verdict-record, sound-got}
 use Rattle.words.proofs.Chain.{bind-done, owned-on}
-use Rattle.check_crosses.specs.Crosses.{pairsDiffer, pointsDiffer, crossEnd, CrossOk, CrossesOk}
+use Rattle.check_tokens.specs.Tokens.{CrossOk}
+use Rattle.check_crosses.specs.Crosses.{pairsDiffer, pointsDiffer, crossEnd, CrossesOk}
 use Rattle.words.proofs.Laws.{unless-same}
 use Rattle.words.proofs.Flat.{times-same, each-times}
 

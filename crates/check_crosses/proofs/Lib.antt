@@ -1,4 +1,3 @@
 pub mod CrossLaws
-pub mod TokenLaws
 pub mod SelectLaws
 pub mod Sections

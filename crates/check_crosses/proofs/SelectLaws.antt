@@ -20,7 +20,8 @@ use Rattle.words.specs.Sums.{sumFrom}
 use Rattle.words.specs.declared.verdicts.Verdict.{Verdict}
 use Rattle.words.proofs.Laws.{owners-done, owners-stop, owners-on}
 use Rattle.words.proofs.Chain.{bind-stop, bind-done, rows-on}
-use Rattle.check_crosses.specs.Crosses.{CrossOk, CrossesOk, found}
+use Rattle.check_tokens.specs.Tokens.{CrossOk, found}
+use Rattle.check_crosses.specs.Crosses.{CrossesOk}
 use Rattle.words.proofs.Chain.{says-in, count-stop, count-on}
 
 -- ---- one cross bin

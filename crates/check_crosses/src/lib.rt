@@ -2,7 +2,6 @@
 pub mod bins;
 pub mod heads;
 pub mod selects;
-pub mod tokens;
 
 use crate::bins::cross_bin_section;
 use crate::heads::cross_section;

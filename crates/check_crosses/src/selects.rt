@@ -1,6 +1,7 @@
-// Section 10: the expressions that select tokens make, cross bin by cross bin.
+// Section 10: the select tokens, cross bin by cross bin.
 use crate::bins::owned_bins;
-use crate::tokens::tokens;
+use check_tokens::expressions::one_expression;
+use check_tokens::tokens::tokens;
 use layout::Section;
 use words::bytes::byte;
 use words::counts::owned_count;
@@ -11,54 +12,13 @@ ghost use mathlib.Core.Path.{_≡_};
 ghost use mathlib.Core.List.{[]};
 ghost use Prim.Native.Nat.{_+_, _*_, _-_, _≤_};
 ghost use lib.ListN.{length};
-ghost use Rattle.model.specs.Format.{binHead, crossPoints, crossBinHead, tokensOf, tokenRecord, expressions, each, readSelect, readSelects, readTokenSection};
+ghost use Rattle.model.specs.Format.{binHead, crossPoints, crossBinHead, tokensOf, each, readSelect, readSelects, readTokenSection};
 ghost use Rattle.model.specs.Raw.{rows, pointsAt, crossBinHeadsAt, crossHeadsAt};
 ghost use Rattle.words.specs.Verdicts.{verdictOf};
 ghost use Rattle.words.specs.Sums.{sumFrom};
 ghost use Rattle.ranges.specs.Types.{AllWide};
-ghost use Rattle.check_crosses.specs.Crosses.{CrossOk, CrossesOk, found, wantedAfter, lacks};
-
-// How many expressions are wanted after a token, given how many were before it.
-fn wanted_after(op: u8, wanted: usize) -> usize
-    requires { ⌜ (1 ≤ wanted) × (wanted ≤ 65536) ⌝ }
-    ensures { λ r. ⌜ r ≡ wantedAfter op wanted ⌝ }
-{
-    if op <= 2 {
-        wanted - 1
-    } else if op <= 3 {
-        wanted
-    } else {
-        wanted + 1
-    }
-}
-
-// Whether no token is wanted, or a not stands before no leaf.
-fn lacks(op: u8, next: u8, wanted: usize) -> bool
-    ensures { λ r. ⌜ r ≡ lacks op next wanted ⌝ }
-{
-    (wanted == 0) | ((op == 3) & (2 < next))
-}
-
-// Whether n tokens from start on are one expression.
-fn one_expression(t: &[u8], n: usize, start: usize) -> bool
-    requires { ⌜ (start ≤ 65536) × (n ≤ 255) ⌝ }
-    ensures { λ r. ⌜ r ≡ found 1 (expressions (rows (tokenRecord (now (t .entry))) 20 start n)) ⌝ }
-{
-    let mut at = start;
-    let mut wanted = 1;
-    let mut i = 0;
-    while i < n {
-        let op = byte(t, at);
-        let next = byte(t, at + 20);
-        if lacks(op, next, wanted) {
-            return false;
-        }
-        wanted = wanted_after(op, wanted);
-        at += 20;
-        i += 1;
-    }
-    wanted == 0
-}
+ghost use Rattle.check_tokens.specs.Tokens.{CrossOk};
+ghost use Rattle.check_crosses.specs.Crosses.{CrossesOk};
 
 // Where the last of the tokens that end at end stands.
 fn last_token(end: usize) -> usize

@@ -1,4 +1,6 @@
-// Lists of places, where few of many elements matter.
+// Lists of places, where few of many elements matter, and counts that are raised at them.
+pub mod raises;
+
 ghost use mathlib.Core.Path.{_≡_};
 ghost use Prim.Native.Nat.{_≤_, _+_};
 ghost use lib.ListN.{length, take};

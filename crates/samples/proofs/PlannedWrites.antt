@@ -18,7 +18,7 @@ use Rattle.arrays.proofs.PutLaws.{put-all, front-kept}
 use Rattle.places.specs.Places.{ascending, isSet, ofKind, placesFrom, illegalPlaces}
 use Rattle.places.proofs.PlaceLaws.{ascending-places, places-below}
 use Rattle.lists.specs.Lists.{illegalsAt, Ready}
-use Rattle.samples.specs.Raises.{hitBits}
+use Rattle.samples.specs.Listed.{hitBits}
 use Rattle.samples.specs.Writes.{sampleRefusal, runsAfter, flagsAfter, reportOf, countsAfter, Countable}
 use Rattle.samples.proofs.Passed.{all-passed}
 use Rattle.samples.proofs.ReportLaws.{report-places, illegal-many}

@@ -18,7 +18,7 @@ use Rattle.places.proofs.PlaceLaws.{oneOf-places}
 use Rattle.samples.specs.Adds.{reported, illegalFlags}
 use Rattle.model.specs.Sampling.{Stretches, hits}
 use Rattle.model.specs.Register.{illegalTotal, allLengths, runStretches}
-use Rattle.samples.specs.Raises.{hitBits}
+use Rattle.samples.specs.Listed.{hitBits}
 use Rattle.samples.specs.Writes.{runsAfter, flagsAfter, reportOf}
 use Rattle.samples.proofs.FindLaws.{places-flagged}
 use Rattle.samples.proofs.WriteLaws.{report-length}

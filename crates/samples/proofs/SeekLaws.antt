@@ -13,7 +13,7 @@ use Rattle.model.proofs.Booleans.{bool-eq}
 use Rattle.model.proofs.Lists.{head-tail}
 use Rattle.places.specs.Places.{ascending}
 use Rattle.places.proofs.PlaceLaws.{ascending-head, ascending-tail, ascending-from, oneOf-below}
-use Rattle.samples.specs.Raises.{hitBits}
+use Rattle.samples.specs.Listed.{hitBits}
 
 one-of : (x y : ℕ) (ys : List ℕ) → oneOf x (y ∷ ys) ≡ (eqb x y || oneOf x ys)
 unfolding oneOf

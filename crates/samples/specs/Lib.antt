@@ -1,5 +1,5 @@
 -- The definitions that the contracts cite.
 pub mod Adds
 pub mod Writes
-pub mod Raises
+pub mod Listed
 pub mod Prepared

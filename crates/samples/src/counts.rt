@@ -1,6 +1,6 @@
 // The counts after a sample, by the places that it hits.
 use crate::adds::add_unknowns;
-use crate::raises::raise_each;
+use places::raises::raise_each;
 ghost use mathlib.Core.Path.{_≡_};
 ghost use mathlib.Core.Bool.{true};
 ghost use mathlib.Core.List.{List};

@@ -3,5 +3,4 @@ pub mod adds;
 pub mod counts;
 pub mod listed;
 pub mod prepare;
-pub mod raises;
 pub mod write;

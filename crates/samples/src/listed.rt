@@ -7,7 +7,7 @@ ghost use lib.ListN.{length, getD, drop};
 ghost use Rattle.model.specs.Lists.{oneOf};
 ghost use Rattle.arrays.specs.Put.{put};
 ghost use Rattle.places.specs.Places.{ascending};
-ghost use Rattle.samples.specs.Raises.{hitBits, Passed};
+ghost use Rattle.samples.specs.Listed.{hitBits, Passed};
 
 // The first hit from number from on whose place is not below k.
 fn seek(hits: &[u16], from: usize, k: u16) -> usize

@@ -7,7 +7,7 @@ use lib.ListN.{length, drop, getD, length-set}
 use Rattle.model.specs.Lists.{oneOf, asBit}
 use Rattle.arrays.specs.Put.{put}
 use Rattle.arrays.proofs.PutLaws.{put-cons, put-nil}
-use Rattle.samples.specs.Raises.{hitBits}
+use Rattle.samples.specs.Listed.{hitBits}
 use Rattle.samples.proofs.SeekLaws.{bits-turn, bits-end, next-above}
 use Rattle.samples.proofs.listed.report_listed.Statement.{statement}
 use Rattle.samples.proofs.listed.report_listed.Tie as tie
