@@ -13,8 +13,8 @@
  *     with tables and samples shared or not.
  *
  * A register is an array of 32-bit words that the caller lends: flag (1: running), samples, one count per place, one unknown count per
- * point, then the run words of the sequences. Words beyond those are never touched. A refused call writes nothing but the answer's 0; of
- * fluviquen_samples, the refused sample writes nothing.
+ * point, then the run words of the sequences. Words beyond those are never touched. A refused call writes nothing but the answer's 0,
+ * and fluviquen_measure the byte at fault; of fluviquen_samples, the refused sample writes nothing.
  *
  * A sample is an array of 32-bit words: guard bits 0 to 31, guard bits 32 to 63, the same of unknown guard bits, then for each point its
  * value bits and its unknown bits. Bits above a point's width are 0 in both, at signed points too: a negative value is given in two's
@@ -27,21 +27,21 @@
 #include <stdint.h>
 
 #define FLUVIQUEN_VERSION_MAJOR 0
-#define FLUVIQUEN_VERSION_MINOR 2
+#define FLUVIQUEN_VERSION_MINOR 3
 #define FLUVIQUEN_VERSION_PATCH 0
-#define FLUVIQUEN_VERSION "0.2.0"
+#define FLUVIQUEN_VERSION "0.3.0"
 
 #ifdef __cplusplus
 extern "C" {
 #endif
 
-/* The numbers that the functions return. 1 to 6 refuse a table, with the first that applies; every function tests its table before
- * anything else. 7 to 14 refuse a call, in the order that each function gives. */
+/* The numbers that the functions return. 1 to 6 and 15 to 17 refuse a table, with the first that applies; every function tests its table
+ * before anything else. fluviquen_measure also gives the byte at fault. 7 to 14 refuse a call, in the order that each function gives. */
 enum fluviquen_refusal {
     FLUVIQUEN_ACCEPTED = 0,
     FLUVIQUEN_TABLE_TOO_LONG = 1,      /* the table is over 65,536 bytes */
     FLUVIQUEN_TABLE_CUT = 2,           /* a count or record of the table runs past its end */
-    FLUVIQUEN_TABLE_FIELD = 3,         /* a count or field of the table is outside its allowed values */
+    FLUVIQUEN_TABLE_COUNT = 3,         /* a section count or an owned count outside its limits */
     FLUVIQUEN_TABLE_DISAGREES = 4,     /* counts, defaults, sequences, crosses or expressions of the table do not agree */
     FLUVIQUEN_TABLE_LEFTOVER = 5,      /* the table has bytes after section ten */
     FLUVIQUEN_TABLE_LIMITS = 6,        /* the table has over 256 places at a point, or over 1,024 products in a cross */
@@ -52,12 +52,18 @@ enum fluviquen_refusal {
     FLUVIQUEN_REPORT_SHORT = 11,       /* the report is shorter than the number of illegal places */
     FLUVIQUEN_SAMPLE_LENGTH = 12,      /* the sample has not 4 + 2 x points words */
     FLUVIQUEN_SAMPLE_WIDTH = 13,       /* the sample has a value or unknown bit above a point's width */
-    FLUVIQUEN_NOT_THERE = 14           /* there is no such place, point or item */
+    FLUVIQUEN_NOT_THERE = 14,          /* there is no such place, point or item */
+    FLUVIQUEN_TABLE_FIELD = 15,        /* a field outside its allowed values, or a guard at an ignore bin (not 3, 16 or 17) */
+    FLUVIQUEN_TABLE_VALUE = 16,        /* a, b, lo or hi outside the point's type, out of order, or a pattern outside its mask */
+    FLUVIQUEN_TABLE_UNUSED = 17        /* an unused field without its unused value */
 };
 
 /* Writes how many 32-bit words a register for this table needs, and how many of its places are illegal bins, which is the length of a
- * sample's report. Both are 0 if the table is refused. */
-uint32_t fluviquen_measure(const uint8_t *table, size_t table_len, uint32_t *words, uint32_t *illegal_places);
+ * sample's report. Both are 0 if the table is refused. Writes to place which byte of the table, from 0, to look at: that of the count or
+ * field at fault (3, 15, 16, 17; of two fields that do not go together, the later); where the missing count or record would begin (2); the
+ * count or record after which it is tested (4); the first byte left over (5); the table's length (6). It is 0 if the table is accepted, or
+ * refused with 1. */
+uint32_t fluviquen_measure(const uint8_t *table, size_t table_len, uint32_t *words, uint32_t *illegal_places, size_t *place);
 
 /* Writes where the records of section 1 to 10 stand in the table, without their count: `len` bytes from `table + start` on. Both are 0 if
  * the table is refused, or for another number. Returns the table's refusal number. */

@@ -5,11 +5,12 @@ use fluviquen::raw;
 pub use fluviquen::raw::{place_count, reset, sample, samples, start, stop, unknown_count};
 
 pub fn measure(table: &[u8]) -> Measure {
-    let (number, words, illegal_places) = raw::measure(table);
+    let (number, words, illegal_places, place) = raw::measure(table);
     Measure {
         number,
         words,
         illegal_places,
+        place,
     }
 }
 

@@ -664,16 +664,23 @@ pub fn damaged(rng: &mut Rng, table: &Table) -> (Vec<u8>, String) {
     }
 }
 
+/// A table with one change, the change in words, and the field that has another
+/// value (none in a cut).
+pub struct Spoiled {
+    pub bytes: Vec<u8>,
+    pub what: String,
+    pub field: Option<Field>,
+}
+
 /// Every cut of a table, and each of its fields with each edge value.
-pub fn every_fault(table: &Table) -> Vec<(Vec<u8>, String)> {
+pub fn every_fault(table: &Table) -> Vec<Spoiled> {
     let written = table.written();
     let cuts = 0..written.bytes.len();
-    let mut faults: Vec<(Vec<u8>, String)> = cuts
-        .map(|length| {
-            (
-                written.bytes[..length].to_vec(),
-                format!("cut to {length} bytes"),
-            )
+    let mut faults: Vec<Spoiled> = cuts
+        .map(|length| Spoiled {
+            bytes: written.bytes[..length].to_vec(),
+            what: format!("cut to {length} bytes"),
+            field: None,
         })
         .collect();
     for field in &written.fields {
@@ -684,7 +691,11 @@ pub fn every_fault(table: &Table) -> Vec<(Vec<u8>, String)> {
         {
             let mut spoiled = written.clone();
             spoiled.overwrite(field, *new);
-            faults.push((spoiled.bytes, change(field, old, *new)));
+            faults.push(Spoiled {
+                bytes: spoiled.bytes,
+                what: change(field, old, *new),
+                field: Some(field.clone()),
+            });
         }
     }
     faults

@@ -3,6 +3,7 @@
 
 use crate::book::{Label, Rules};
 use crate::register::Model;
+use crate::table::Refusal;
 use std::fmt::Write;
 
 /// How often the line of an illegal place is shown.
@@ -13,13 +14,18 @@ pub fn reason(number: u32) -> &'static str {
     match number {
         1 => "the table is over 65,536 bytes",
         2 => "a count or record of the table runs past its end",
-        3 => "a count or field of the table is outside its allowed values",
+        3 => "a section count or an owned count outside its limits",
         4 => "counts, defaults, sequences, crosses or expressions of the table do not agree",
         5 => "the table has bytes after section ten",
         6 => "the table has over 256 places at a point, or over 1,024 products in a cross",
         9 => "the register has taken 4,294,967,295 samples",
         10 => "the register is stopped",
         13 => "a value or unknown bit above a point's width",
+        15 => "a field outside its allowed values, or a guard at an ignore bin",
+        16 => {
+            "a, b, lo or hi outside the point's type, out of order, or a pattern outside its mask"
+        }
+        17 => "an unused field without its unused value",
         _ => panic!("no replay is refused with {number}"),
     }
 }
@@ -158,9 +164,17 @@ impl Illegals {
     }
 }
 
-/// What replay writes for a table that it refuses.
-pub fn refused_table(number: u32) -> String {
-    format!("no report: table refused: {number} ({})\n", reason(number))
+/// What replay writes for a table that it refuses: 1 has no place.
+pub fn refused_table(refusal: Refusal) -> String {
+    let Refusal { number, place } = refusal;
+    let at = match number {
+        1 => String::new(),
+        _ => format!(" at byte {place}"),
+    };
+    format!(
+        "no report: table refused: {number}{at} ({})\n",
+        reason(number)
+    )
 }
 
 /// What replay writes for the bytes of a table and of a log.
@@ -172,7 +186,7 @@ pub fn replay(table: &[u8], log: &[u8]) -> String {
 pub fn replay_until(table: &[u8], mut log: &[u8], after: After) -> String {
     let model = match Model::read(table) {
         Ok(model) => model,
-        Err(refusal) => return refused_table(refusal.number),
+        Err(refusal) => return refused_table(refusal),
     };
     let layout = *model.layout();
     let labels = Rules::read(table).expect("an accepted table").labels();

@@ -38,19 +38,28 @@ const DEFAULT: u8 = 3;
 const NO_GUARD: u8 = 255;
 const NO_POINT: u8 = 255;
 
-/// A table's refusal: its number, 1 to 6, and the byte place of the fault.
+/// What is wrong with a count or a field, as a refusal number.
+const COUNT: u32 = 3;
+const FIELD: u32 = 15;
+const VALUE: u32 = 16;
+const UNUSED: u32 = 17;
+
+/// A table's refusal: its number, 1 to 6 or 15 to 17, and the byte place of the
+/// fault (0 for 1).
 #[derive(Clone, Copy, Debug, PartialEq, Eq)]
 pub struct Refusal {
     pub number: u32,
     pub place: usize,
 }
 
-/// The answer of measuring: 0 words and 0 illegal places if refused.
+/// The answer of measuring: 0 words and 0 illegal places if refused, place 0 if
+/// accepted.
 #[derive(Clone, Copy, Debug, PartialEq, Eq)]
 pub struct Measure {
     pub number: u32,
     pub words: u32,
     pub illegal_places: u32,
+    pub place: usize,
 }
 
 /// Where a section's records begin, and how many there are.
@@ -236,11 +245,13 @@ pub fn measure(bytes: &[u8]) -> Measure {
             number: 0,
             words: layout.words() as u32,
             illegal_places: layout.illegal_places as u32,
+            place: 0,
         },
         Err(refusal) => Measure {
             number: refusal.number,
             words: 0,
             illegal_places: 0,
+            place: refusal.place,
         },
     }
 }
@@ -305,13 +316,13 @@ impl Record<'_> {
         i64::from_le_bytes(self.bytes[at..at + 8].try_into().unwrap())
     }
 
-    /// Refuses with 3 at the field that begins at `at`.
-    fn need(&self, at: usize, holds: bool) -> Result<(), Refusal> {
+    /// Refuses with the number at the field that begins at `at`.
+    fn need(&self, number: u32, at: usize, holds: bool) -> Result<(), Refusal> {
         if holds {
             Ok(())
         } else {
             Err(Refusal {
-                number: 3,
+                number,
                 place: self.place + at,
             })
         }
@@ -372,7 +383,7 @@ impl<'a> Walk<'a> {
         let record = self.take(2)?;
         let count = record.u16(0) as usize;
         let least = usize::from(section == POINTS);
-        record.need(0, least <= count && count <= LARGEST_COUNT[section])?;
+        record.need(COUNT, 0, least <= count && count <= LARGEST_COUNT[section])?;
         record.agree(owned.is_none_or(|sum| sum == count))?;
         self.parts[section] = Part {
             start: self.place,
@@ -406,11 +417,11 @@ impl<'a> Walk<'a> {
     fn points(&mut self) -> Result<(), Refusal> {
         for _ in 0..self.open(POINTS, None)? {
             let record = self.next(POINTS)?;
-            record.need(0, (1..=32).contains(&record.u8(0)))?;
-            record.need(1, record.u8(1) <= 1)?;
-            record.need(2, is_guard(record.u8(2)))?;
-            record.need(5, record.u32(5) >= 1)?;
-            record.need(9, (1..=256).contains(&record.u16(9)))?;
+            record.need(FIELD, 0, (1..=32).contains(&record.u8(0)))?;
+            record.need(FIELD, 1, record.u8(1) <= 1)?;
+            record.need(FIELD, 2, is_guard(record.u8(2)))?;
+            record.need(FIELD, 5, record.u32(5) >= 1)?;
+            record.need(FIELD, 9, (1..=256).contains(&record.u16(9)))?;
         }
         Ok(())
     }
@@ -423,12 +434,16 @@ impl<'a> Walk<'a> {
             let record = self.next(VALUE_BINS)?;
             let (point, kind, form) = (record.u8(0), record.u8(1), record.u8(2));
             let (number, ranges) = (record.u16(3), record.u16(6));
-            record.need(0, (point as usize) < self.count(POINTS))?;
-            record.need(1, kind <= DEFAULT)?;
-            record.need(2, form <= if kind == COVER { 2 } else { 0 })?;
-            record.need(3, number_fits(form, number))?;
-            record.need(5, guard_fits(kind, record.u8(5)))?;
-            record.need(6, (ranges == 0) == (kind == DEFAULT))?;
+            record.need(FIELD, 0, (point as usize) < self.count(POINTS))?;
+            record.need(FIELD, 1, kind <= DEFAULT)?;
+            record.need(FIELD, 2, form <= if kind == COVER { 2 } else { 0 })?;
+            if form == 2 {
+                record.need(FIELD, 3, (1..=256).contains(&number))?;
+            } else {
+                record.need(UNUSED, 3, number == 0)?;
+            }
+            record.need(FIELD, 5, guard_fits(kind, record.u8(5)))?;
+            record.need(COUNT, 6, (ranges == 0) == (kind == DEFAULT))?;
             if kind == DEFAULT {
                 record.agree(with_default >> point & 1 == 0)?;
                 with_default |= 1 << point;
@@ -457,10 +472,10 @@ impl<'a> Walk<'a> {
         for _ in 0..self.open(TRANSITION_BINS, None)? {
             let record = self.next(TRANSITION_BINS)?;
             let kind = record.u8(1);
-            record.need(0, (record.u8(0) as usize) < self.count(POINTS))?;
-            record.need(1, kind <= ILLEGAL)?;
-            record.need(2, guard_fits(kind, record.u8(2)))?;
-            record.need(3, record.u8(3) >= 1)?;
+            record.need(FIELD, 0, (record.u8(0) as usize) < self.count(POINTS))?;
+            record.need(FIELD, 1, kind <= ILLEGAL)?;
+            record.need(FIELD, 2, guard_fits(kind, record.u8(2)))?;
+            record.need(COUNT, 3, record.u8(3) >= 1)?;
             owned += record.u8(3) as usize;
         }
         Ok(owned)
@@ -471,7 +486,7 @@ impl<'a> Walk<'a> {
         let mut steps = 0;
         for _ in 0..self.open(SEQUENCES, Some(owned))? {
             let record = self.next(SEQUENCES)?;
-            record.need(0, (1..=16).contains(&record.u8(0)))?;
+            record.need(COUNT, 0, (1..=16).contains(&record.u8(0)))?;
             steps += record.u8(0) as usize;
         }
         Ok(steps)
@@ -487,9 +502,9 @@ impl<'a> Walk<'a> {
             for _ in 0..self.record(SEQUENCES, sequence).u8(0) {
                 let record = self.next(STEPS)?;
                 let (least, most) = (record.u8(1), record.u8(2));
-                record.need(0, record.u8(0) >= 1)?;
-                record.need(1, (1..=32).contains(&least))?;
-                record.need(2, (least..=32).contains(&most))?;
+                record.need(COUNT, 0, record.u8(0) >= 1)?;
+                record.need(FIELD, 1, (1..=32).contains(&least))?;
+                record.need(FIELD, 2, (least..=32).contains(&most))?;
                 ranges += record.u8(0) as usize;
                 leasts += least as u32;
                 mosts += most as u32;
@@ -528,21 +543,21 @@ impl<'a> Walk<'a> {
         for _ in 0..self.open(CROSSES, None)? {
             let record = self.next(CROSSES)?;
             let points = record.u8(0);
-            record.need(0, (2..=4).contains(&points))?;
+            record.need(FIELD, 0, (2..=4).contains(&points))?;
             let (mut seen, mut twice) = (0u16, false);
             for at in 1..=4 {
                 let point = record.u8(at);
                 if at > points as usize {
-                    record.need(at, point == NO_POINT)?;
+                    record.need(UNUSED, at, point == NO_POINT)?;
                 } else {
-                    record.need(at, (point as usize) < self.count(POINTS))?;
+                    record.need(FIELD, at, (point as usize) < self.count(POINTS))?;
                     twice |= seen >> point & 1 == 1;
                     seen |= 1 << point;
                 }
             }
-            record.need(5, is_guard(record.u8(5)))?;
-            record.need(8, record.u32(8) >= 1)?;
-            record.need(12, record.u8(12) <= 16)?;
+            record.need(FIELD, 5, is_guard(record.u8(5)))?;
+            record.need(FIELD, 8, record.u32(8) >= 1)?;
+            record.need(COUNT, 12, record.u8(12) <= 16)?;
             record.agree(!twice)?;
             owned += record.u8(12) as usize;
         }
@@ -555,9 +570,9 @@ impl<'a> Walk<'a> {
         for _ in 0..self.open(CROSS_BINS, Some(owned))? {
             let record = self.next(CROSS_BINS)?;
             let kind = record.u8(0);
-            record.need(0, kind <= ILLEGAL)?;
-            record.need(1, guard_fits(kind, record.u8(1)))?;
-            record.need(2, (1..=32).contains(&record.u8(2)))?;
+            record.need(FIELD, 0, kind <= ILLEGAL)?;
+            record.need(FIELD, 1, guard_fits(kind, record.u8(1)))?;
+            record.need(COUNT, 2, (1..=32).contains(&record.u8(2)))?;
             tokens += record.u8(2) as usize;
         }
         Ok(tokens)
@@ -603,16 +618,16 @@ impl<'a> Walk<'a> {
     fn token(&self, record: Record, cross: Record) -> Result<(), Refusal> {
         let (op, position, bin) = (record.u8(0), record.u8(1), record.u16(2) as usize);
         let (lo, hi) = (record.i64(4), record.i64(12));
-        record.need(0, op <= 5)?;
+        record.need(FIELD, 0, op <= 5)?;
         if op > 2 {
-            record.need(1, position == 0)?;
+            record.need(UNUSED, 1, position == 0)?;
         } else {
-            record.need(1, position < cross.u8(0))?;
+            record.need(FIELD, 1, position < cross.u8(0))?;
         }
-        record.need(2, op == 1 || bin == 0)?;
+        record.need(UNUSED, 2, op == 1 || bin == 0)?;
         if op != 2 {
-            record.need(4, lo == 0)?;
-            record.need(12, hi == 0)?;
+            record.need(UNUSED, 4, lo == 0)?;
+            record.need(UNUSED, 12, hi == 0)?;
         }
         if op > 2 {
             return Ok(());
@@ -620,8 +635,8 @@ impl<'a> Walk<'a> {
         let point = cross.u8(1 + position as usize);
         if op == 2 {
             let ty = self.point_type(point as usize);
-            record.need(4, ty.holds(lo))?;
-            record.need(12, ty.holds(hi) && lo <= hi)?;
+            record.need(VALUE, 4, ty.holds(lo))?;
+            record.need(VALUE, 12, ty.holds(hi) && lo <= hi)?;
         }
         record.agree(op != 1 || self.is_cover_bin(bin, point))
     }
@@ -787,26 +802,18 @@ fn guard_fits(kind: u8, guard: u8) -> bool {
     guard == NO_GUARD || (guard <= 63 && kind != IGNORE)
 }
 
-fn number_fits(form: u8, number: u16) -> bool {
-    if form == 2 {
-        (1..=256).contains(&number)
-    } else {
-        number == 0
-    }
-}
-
 /// A range record; each field is judged with those left of it.
 fn check_range(record: Record, ty: Type, pattern_allowed: bool) -> Result<(), Refusal> {
     let (a, b) = (record.i64(1), record.i64(9));
     match record.u8(0) {
         0 => {
-            record.need(1, ty.holds(a))?;
-            record.need(9, ty.holds(b) && a <= b)
+            record.need(VALUE, 1, ty.holds(a))?;
+            record.need(VALUE, 9, ty.holds(b) && a <= b)
         }
         kind => {
-            record.need(0, kind == 1 && pattern_allowed && !ty.signed)?;
-            record.need(1, a & !ty.ones() == 0)?;
-            record.need(9, b & !ty.ones() == 0 && a & !b == 0)
+            record.need(FIELD, 0, kind == 1 && pattern_allowed && !ty.signed)?;
+            record.need(VALUE, 1, a & !ty.ones() == 0)?;
+            record.need(VALUE, 9, b & !ty.ones() == 0 && a & !b == 0)
         }
     }
 }

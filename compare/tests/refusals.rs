@@ -1,57 +1,41 @@
 //! Every refusal number, at each place where it can be given.
 
+mod common;
+
+use common::{four, full, FAULTS};
+
 use compare::builder::{
     sequence, value, Cross, Form, Kind, Point, Range, Select, Step, Table, TransitionBin, ValueBin,
     Written,
 };
 use compare::calls::UNTOUCHED;
+use compare::random::{self, Spoiled};
 use compare::register;
 use compare::table::{
-    self, CROSSES, CROSS_BINS, POINTS, RECORD_SIZE, SEQUENCES, STEPS, STEP_RANGES, TOKENS,
+    self, Refusal, CROSSES, CROSS_BINS, POINTS, RECORD_SIZE, SEQUENCES, STEPS, STEP_RANGES, TOKENS,
     TRANSITION_BINS, VALUE_BINS, VALUE_RANGES,
 };
+use std::collections::BTreeSet;
 
-/// A table with records in every section.
-fn full() -> Table {
-    let points = vec![Point::new(4), Point::signed(4), Point::new(3)];
-    let values = vec![
-        ValueBin::cover(0, &[Range::Span(1, 2)]).guard(3),
-        ValueBin::cover(0, &[Range::Span(3, 8)]).form(Form::Number(2)),
-        ValueBin::ignore(0, &[value(9)]),
-        ValueBin::illegal(0, &[value(10)]),
-        ValueBin::default(0),
-        ValueBin::cover(1, &[Range::Span(-3, 2)]).form(Form::PerValue),
-        ValueBin::cover(0, &[Range::Pattern(8, 12)]),
-    ];
-    let repeated = vec![
-        Step::new(&[value(4)]).repeat(2, 3),
-        Step::new(&[Range::Pattern(1, 1), value(6)]),
-        Step::new(&[Range::Span(2, 5)]),
-    ];
-    let transitions = vec![
-        TransitionBin::cover(0, &[sequence(&[1, 2]), repeated]),
-        TransitionBin::ignore(1, &[sequence(&[-1, 1])]),
-        TransitionBin::illegal(2, &[sequence(&[3, 3])]).guard(63),
-    ];
-    let select = Select::bin(0, 0).and(Select::meets(1, 0, 1).negated());
-    let cross = Cross::new(&[0, 1])
-        .guard(0)
-        .bin(Kind::Cover, select)
-        .bin(Kind::Ignore, Select::Whole(1));
-    Table::new(points)
-        .values(values)
-        .transitions(transitions)
-        .cross(cross)
-}
+/// What is wrong with a count or a field, as a refusal number.
+const COUNT: u32 = 3;
+const FIELD: u32 = 15;
+const VALUE: u32 = 16;
+const UNUSED: u32 = 17;
 
+/// The number and the place, 0 and 0 if the table is accepted.
 fn refusal(bytes: &[u8]) -> (u32, usize) {
+    let measure = common::measure(bytes);
     match table::check(bytes) {
-        Ok(_) => (0, 0),
+        Ok(_) => {
+            assert_eq!((measure.number, measure.place), (0, 0));
+            (0, 0)
+        }
         Err(refusal) => {
             assert_eq!(table::decode(bytes), Err(refusal));
-            let measure = table::measure(bytes);
-            assert_eq!((measure.number, measure.words), (refusal.number, 0));
-            assert_eq!(measure.illegal_places, 0);
+            let Refusal { number, place } = refusal;
+            assert_eq!((measure.number, measure.place), (number, place));
+            assert_eq!((measure.words, measure.illegal_places), (0, 0));
             assert!((0..12).all(|section| table::section(bytes, section).is_empty()));
             (refusal.number, refusal.place)
         }
@@ -65,12 +49,12 @@ fn spoiled(table: &Table, section: usize, record: usize, name: &str, v: i64) -> 
     (written.bytes, place)
 }
 
-/// These values of a field are refused with 3 at the field.
-fn bad(section: usize, record: usize, name: &str, values: &[i64]) {
+/// These values of a field are refused with the number at the field.
+fn bad(number: u32, section: usize, record: usize, name: &str, values: &[i64]) {
     for &v in values {
         let (bytes, place) = spoiled(&full(), section, record, name, v);
         let what = format!("section {section} record {record} {name} = {v}");
-        assert_eq!(refusal(&bytes), (3, place), "{what}");
+        assert_eq!(refusal(&bytes), (number, place), "{what}");
     }
 }
 
@@ -140,8 +124,23 @@ fn two_at_every_cut() {
     }
 }
 
+/// Each count and field with each edge value: it causes the numbers that it can
+/// cause, and no others, at its own place.
 #[test]
-fn three_counts() {
+fn every_field_at_fault() {
+    let mut met = BTreeSet::new();
+    for Spoiled { bytes, field, .. } in [full(), four()].iter().flat_map(random::every_fault) {
+        let (number, place) = refusal(&bytes);
+        let field = field.filter(|field| field.place == place);
+        if let (COUNT | FIELD | VALUE | UNUSED, Some(field)) = (number, field) {
+            met.insert((number, field.section, field.name));
+        }
+    }
+    assert_eq!(met, BTreeSet::from(FAULTS));
+}
+
+#[test]
+fn counts() {
     let largest = [
         (POINTS, 17),
         (VALUE_BINS, 513),
@@ -171,12 +170,12 @@ fn three_counts() {
 }
 
 #[test]
-fn three_points() {
-    bad(POINTS, 1, "width", &[0, 33, 255]);
-    bad(POINTS, 1, "signed", &[2, 255]);
-    bad(POINTS, 1, "guard", &[64, 254]);
-    bad(POINTS, 1, "at-least", &[0]);
-    bad(POINTS, 1, "auto-max", &[0, 257, 65_535]);
+fn points() {
+    bad(FIELD, POINTS, 1, "width", &[0, 33, 255]);
+    bad(FIELD, POINTS, 1, "signed", &[2, 255]);
+    bad(FIELD, POINTS, 1, "guard", &[64, 254]);
+    bad(FIELD, POINTS, 1, "at-least", &[0]);
+    bad(FIELD, POINTS, 1, "auto-max", &[0, 257, 65_535]);
     good(POINTS, 1, "guard", &[0, 63, 255]);
     good(POINTS, 1, "weight", &[0, 65_535]);
     good(POINTS, 1, "at-least", &[1, 0xFFFF_FFFF]);
@@ -185,48 +184,48 @@ fn three_points() {
 }
 
 #[test]
-fn three_value_bins() {
-    bad(VALUE_BINS, 0, "point", &[3, 255]);
-    bad(VALUE_BINS, 0, "kind", &[4, 255]);
-    bad(VALUE_BINS, 0, "form", &[3, 255]);
+fn value_bins() {
+    bad(FIELD, VALUE_BINS, 0, "point", &[3, 255]);
+    bad(FIELD, VALUE_BINS, 0, "kind", &[4, 255]);
+    bad(FIELD, VALUE_BINS, 0, "form", &[3, 255]);
     for other in [2, 3, 4] {
-        bad(VALUE_BINS, other, "form", &[1, 2, 3]);
+        bad(FIELD, VALUE_BINS, other, "form", &[1, 2, 3]);
     }
-    bad(VALUE_BINS, 0, "number", &[1, 256, 65_535]);
-    bad(VALUE_BINS, 5, "number", &[1]);
-    bad(VALUE_BINS, 1, "number", &[0, 257, 65_535]);
+    bad(UNUSED, VALUE_BINS, 0, "number", &[1, 256, 65_535]);
+    bad(UNUSED, VALUE_BINS, 5, "number", &[1]);
+    bad(FIELD, VALUE_BINS, 1, "number", &[0, 257, 65_535]);
     good(VALUE_BINS, 1, "number", &[1, 3]);
-    bad(VALUE_BINS, 0, "guard", &[64, 254]);
-    bad(VALUE_BINS, 2, "guard", &[0, 63, 64]);
+    bad(FIELD, VALUE_BINS, 0, "guard", &[64, 254]);
+    bad(FIELD, VALUE_BINS, 2, "guard", &[0, 63, 64]);
     good(VALUE_BINS, 0, "guard", &[0, 63, 255]);
     good(VALUE_BINS, 3, "guard", &[0, 63]);
     good(VALUE_BINS, 4, "guard", &[0, 63]);
     for owner in [0, 1, 2, 3, 5] {
-        bad(VALUE_BINS, owner, "ranges", &[0]);
+        bad(COUNT, VALUE_BINS, owner, "ranges", &[0]);
     }
-    bad(VALUE_BINS, 4, "ranges", &[1, 65_535]);
+    bad(COUNT, VALUE_BINS, 4, "ranges", &[1, 65_535]);
 }
 
 #[test]
-fn three_value_ranges() {
+fn value_ranges() {
     for range in 0..6 {
-        bad(VALUE_RANGES, range, "kind", &[2, 255]);
+        bad(FIELD, VALUE_RANGES, range, "kind", &[2, 255]);
     }
     // Patterns: not in dealt, ignore or illegal bins, not at signed points.
     for range in [1, 2, 3, 4] {
-        bad(VALUE_RANGES, range, "kind", &[1]);
+        bad(FIELD, VALUE_RANGES, range, "kind", &[1]);
     }
-    bad(VALUE_RANGES, 0, "a", &[-1, 16, i64::MIN, i64::MAX]);
-    bad(VALUE_RANGES, 0, "b", &[-1, 16, 0, i64::MAX]);
-    bad(VALUE_RANGES, 4, "a", &[-9, 8]);
-    bad(VALUE_RANGES, 4, "b", &[8, -4]);
+    bad(VALUE, VALUE_RANGES, 0, "a", &[-1, 16, i64::MIN, i64::MAX]);
+    bad(VALUE, VALUE_RANGES, 0, "b", &[-1, 16, 0, i64::MAX]);
+    bad(VALUE, VALUE_RANGES, 4, "a", &[-9, 8]);
+    bad(VALUE, VALUE_RANGES, 4, "b", &[8, -4]);
     good(VALUE_RANGES, 0, "a", &[0, 2]);
     good(VALUE_RANGES, 0, "b", &[1, 15]);
     good(VALUE_RANGES, 4, "a", &[-8, 2]);
     good(VALUE_RANGES, 4, "b", &[-3, 7]);
     // The pattern 10??.
-    bad(VALUE_RANGES, 5, "a", &[-1, 16, i64::MIN]);
-    bad(VALUE_RANGES, 5, "b", &[-1, 28, 0, 4, i64::MIN]);
+    bad(VALUE, VALUE_RANGES, 5, "a", &[-1, 16, i64::MIN]);
+    bad(VALUE, VALUE_RANGES, 5, "b", &[-1, 28, 0, 4, i64::MIN]);
     good(VALUE_RANGES, 5, "a", &[0, 4, 8, 12]);
     good(VALUE_RANGES, 5, "b", &[8, 9, 15]);
     let mut written = full().written();
@@ -237,72 +236,72 @@ fn three_value_ranges() {
     let (bytes, _) = spoiled(&full(), VALUE_RANGES, 5, "a", 9);
     assert_eq!(
         refusal(&bytes),
-        (3, full().written().field(VALUE_RANGES, 5, "b").place)
+        (VALUE, full().written().field(VALUE_RANGES, 5, "b").place)
     );
 }
 
 #[test]
-fn three_transitions() {
-    bad(TRANSITION_BINS, 0, "point", &[3, 255]);
-    bad(TRANSITION_BINS, 0, "kind", &[3, 255]);
-    bad(TRANSITION_BINS, 0, "guard", &[64, 254]);
-    bad(TRANSITION_BINS, 1, "guard", &[0, 63]);
-    bad(TRANSITION_BINS, 0, "sequences", &[0]);
+fn transitions() {
+    bad(FIELD, TRANSITION_BINS, 0, "point", &[3, 255]);
+    bad(FIELD, TRANSITION_BINS, 0, "kind", &[3, 255]);
+    bad(FIELD, TRANSITION_BINS, 0, "guard", &[64, 254]);
+    bad(FIELD, TRANSITION_BINS, 1, "guard", &[0, 63]);
+    bad(COUNT, TRANSITION_BINS, 0, "sequences", &[0]);
     good(TRANSITION_BINS, 2, "guard", &[0, 255]);
-    bad(SEQUENCES, 0, "steps", &[0, 17, 255]);
-    bad(STEPS, 2, "ranges", &[0]);
-    bad(STEPS, 2, "least", &[0, 33, 255]);
-    bad(STEPS, 2, "most", &[0, 1, 33, 255]);
+    bad(COUNT, SEQUENCES, 0, "steps", &[0, 17, 255]);
+    bad(COUNT, STEPS, 2, "ranges", &[0]);
+    bad(FIELD, STEPS, 2, "least", &[0, 33, 255]);
+    bad(FIELD, STEPS, 2, "most", &[0, 1, 33, 255]);
     good(STEPS, 2, "least", &[1, 3]);
     good(STEPS, 2, "most", &[2, 30]);
-    bad(STEP_RANGES, 0, "kind", &[2]);
-    bad(STEP_RANGES, 0, "a", &[-1, 16]);
-    bad(STEP_RANGES, 0, "b", &[0, 16]);
+    bad(FIELD, STEP_RANGES, 0, "kind", &[2]);
+    bad(VALUE, STEP_RANGES, 0, "a", &[-1, 16]);
+    bad(VALUE, STEP_RANGES, 0, "b", &[0, 16]);
     // Point 1 is signed.
-    bad(STEP_RANGES, 6, "kind", &[1]);
-    bad(STEP_RANGES, 6, "a", &[-9]);
+    bad(FIELD, STEP_RANGES, 6, "kind", &[1]);
+    bad(VALUE, STEP_RANGES, 6, "a", &[-9]);
     // An illegal bin's step at an unsigned point may have a pattern.
     good(STEP_RANGES, 8, "kind", &[1]);
-    bad(STEP_RANGES, 8, "b", &[8]);
+    bad(VALUE, STEP_RANGES, 8, "b", &[8]);
 }
 
 #[test]
-fn three_crosses() {
-    bad(CROSSES, 0, "points", &[0, 1, 5, 255]);
-    bad(CROSSES, 0, "point 0", &[3, 255]);
-    bad(CROSSES, 0, "point 1", &[3, 255]);
-    bad(CROSSES, 0, "point 2", &[0, 2, 254]);
-    bad(CROSSES, 0, "point 3", &[0, 2, 254]);
-    bad(CROSSES, 0, "guard", &[64, 254]);
-    bad(CROSSES, 0, "at-least", &[0]);
-    bad(CROSSES, 0, "cross bins", &[17, 255]);
+fn crosses() {
+    bad(FIELD, CROSSES, 0, "points", &[0, 1, 5, 255]);
+    bad(FIELD, CROSSES, 0, "point 0", &[3, 255]);
+    bad(FIELD, CROSSES, 0, "point 1", &[3, 255]);
+    bad(UNUSED, CROSSES, 0, "point 2", &[0, 2, 254]);
+    bad(UNUSED, CROSSES, 0, "point 3", &[0, 2, 254]);
+    bad(FIELD, CROSSES, 0, "guard", &[64, 254]);
+    bad(FIELD, CROSSES, 0, "at-least", &[0]);
+    bad(COUNT, CROSSES, 0, "cross bins", &[17, 255]);
     good(CROSSES, 0, "guard", &[63, 255]);
     good(CROSSES, 0, "weight", &[0, 65_535]);
-    bad(CROSS_BINS, 0, "kind", &[3, 255]);
-    bad(CROSS_BINS, 0, "guard", &[64, 254]);
-    bad(CROSS_BINS, 1, "guard", &[0, 63]);
-    bad(CROSS_BINS, 0, "tokens", &[0, 33, 255]);
+    bad(FIELD, CROSS_BINS, 0, "kind", &[3, 255]);
+    bad(FIELD, CROSS_BINS, 0, "guard", &[64, 254]);
+    bad(FIELD, CROSS_BINS, 1, "guard", &[0, 63]);
+    bad(COUNT, CROSS_BINS, 0, "tokens", &[0, 33, 255]);
     good(CROSS_BINS, 0, "guard", &[0, 63]);
     // Tokens: and, named bin, not, meeting; whole point.
-    bad(TOKENS, 0, "op", &[6, 255]);
-    bad(TOKENS, 0, "position", &[1]);
-    bad(TOKENS, 0, "bin", &[1]);
-    bad(TOKENS, 0, "lo", &[1, -1]);
-    bad(TOKENS, 0, "hi", &[1, i64::MIN]);
-    bad(TOKENS, 1, "position", &[2, 255]);
-    bad(TOKENS, 1, "lo", &[1]);
-    bad(TOKENS, 1, "hi", &[1]);
-    bad(TOKENS, 2, "position", &[1]);
-    bad(TOKENS, 2, "bin", &[1]);
-    bad(TOKENS, 2, "hi", &[1]);
-    bad(TOKENS, 3, "position", &[2]);
-    bad(TOKENS, 3, "bin", &[1]);
-    bad(TOKENS, 3, "lo", &[-9, 8, i64::MIN]);
-    bad(TOKENS, 3, "hi", &[-1, 8, i64::MAX]);
-    bad(TOKENS, 4, "position", &[2]);
-    bad(TOKENS, 4, "bin", &[5]);
-    bad(TOKENS, 4, "lo", &[1]);
-    bad(TOKENS, 4, "hi", &[1]);
+    bad(FIELD, TOKENS, 0, "op", &[6, 255]);
+    bad(UNUSED, TOKENS, 0, "position", &[1]);
+    bad(UNUSED, TOKENS, 0, "bin", &[1]);
+    bad(UNUSED, TOKENS, 0, "lo", &[1, -1]);
+    bad(UNUSED, TOKENS, 0, "hi", &[1, i64::MIN]);
+    bad(FIELD, TOKENS, 1, "position", &[2, 255]);
+    bad(UNUSED, TOKENS, 1, "lo", &[1]);
+    bad(UNUSED, TOKENS, 1, "hi", &[1]);
+    bad(UNUSED, TOKENS, 2, "position", &[1]);
+    bad(UNUSED, TOKENS, 2, "bin", &[1]);
+    bad(UNUSED, TOKENS, 2, "hi", &[1]);
+    bad(FIELD, TOKENS, 3, "position", &[2]);
+    bad(UNUSED, TOKENS, 3, "bin", &[1]);
+    bad(VALUE, TOKENS, 3, "lo", &[-9, 8, i64::MIN]);
+    bad(VALUE, TOKENS, 3, "hi", &[-1, 8, i64::MAX]);
+    bad(FIELD, TOKENS, 4, "position", &[2]);
+    bad(UNUSED, TOKENS, 4, "bin", &[5]);
+    bad(UNUSED, TOKENS, 4, "lo", &[1]);
+    bad(UNUSED, TOKENS, 4, "hi", &[1]);
     good(TOKENS, 1, "bin", &[1, 6]);
     good(TOKENS, 3, "lo", &[-8, 1]);
     good(TOKENS, 3, "hi", &[0, 7]);
@@ -367,7 +366,7 @@ fn four_second_default() {
     let mut written = table.written();
     let place = written.record(VALUE_BINS, 8);
     assert_eq!(refusal(&written.bytes), (4, place));
-    // A fault of the same record is 3, one of a later record comes too late.
+    // A fault of the same record comes first, one of a later record too late.
     written.set(VALUE_BINS, 9, "kind", 9);
     assert_eq!(refusal(&written.bytes), (4, place));
     let field = written.set(VALUE_BINS, 8, "ranges", 1);
@@ -392,12 +391,12 @@ fn four_sequence_sums() {
     let long = with(vec![step(1, 1), step(1, 31), step(1, 1)], fine());
     assert_eq!(refusal(&long.bytes), (4, long.record(STEPS, 2)));
     assert_eq!(refusal(&with(vec![step(2, 2); 16], fine()).bytes), (0, 0));
-    // It shows before the next sequence's steps, and after a 3 of its own.
+    // It shows before the next sequence's steps, and after a field of its own.
     let mut long = with(vec![step(1, 17), step(1, 17)], fine());
     long.set(STEPS, 2, "least", 0);
     assert_eq!(refusal(&long.bytes), (4, long.record(STEPS, 1)));
     let field = long.set(STEPS, 1, "least", 0);
-    assert_eq!(refusal(&long.bytes), (3, field));
+    assert_eq!(refusal(&long.bytes), (FIELD, field));
 }
 
 #[test]
@@ -407,7 +406,7 @@ fn four_point_twice() {
     let place = written.record(CROSSES, 0);
     assert_eq!(refusal(&written.bytes), (4, place));
     let field = written.set(CROSSES, 0, "at-least", 0);
-    assert_eq!(refusal(&written.bytes), (3, field));
+    assert_eq!(refusal(&written.bytes), (FIELD, field));
     let points = vec![Point::new(1); 4];
     let twice = Table::new(points.clone())
         .cross(Cross::new(&[3, 1, 0, 3]))
@@ -428,7 +427,7 @@ fn four_named_bin() {
         let place = written.record(TOKENS, 1);
         assert_eq!(refusal(&written.bytes), (4, place), "bin {bin}");
         let field = written.set(TOKENS, 1, "hi", 1);
-        assert_eq!(refusal(&written.bytes), (3, field));
+        assert_eq!(refusal(&written.bytes), (UNUSED, field));
     }
     // A table without value bins.
     let cross = Cross::new(&[0, 1]).bin(Kind::Cover, Select::bin(0, 0));
@@ -483,10 +482,10 @@ fn four_expressions() {
         let last = written.record(TOKENS, ops.len() - 1);
         assert_eq!(refusal(&written.bytes), (4, last), "{ops:?}");
     }
-    // A 3 in a later token of the same bin comes first.
+    // A field of a later token of the same bin comes first.
     let mut written = with_ops(&[0, 0, 0]);
     let field = written.set(TOKENS, 2, "hi", 1);
-    assert_eq!(refusal(&written.bytes), (3, field));
+    assert_eq!(refusal(&written.bytes), (UNUSED, field));
     // 32 tokens: 15 ands, 16 leaves and a not; 31 nots are no expression.
     let mut ops = vec![4; 15];
     ops.extend([0; 15]);
@@ -625,13 +624,23 @@ fn numbers(bytes: &[u8], register: &[u32]) -> Vec<u32> {
 fn table_numbers_in_every_call() {
     let mut left_over = small();
     left_over.push(0);
-    let mut wrong_field = small();
-    wrong_field[2] = 33;
+    let mut no_points = small();
+    no_points[0] = 0;
+    let mut wrong_width = small();
+    wrong_width[2] = 33;
+    // The illegal bin's number, and the first byte of its span.
+    let mut wrong_number = small();
+    wrong_number[18] = 1;
+    let mut wrong_value = small();
+    wrong_value[26] = 4;
     let twice = Table::new(vec![Point::new(1); 2]).cross(Cross::new(&[1, 1]));
     let refused = [
         (vec![0; 65_537], 1),
         (small()[..20].to_vec(), 2),
-        (wrong_field, 3),
+        (no_points, 3),
+        (wrong_width, 15),
+        (wrong_value, 16),
+        (wrong_number, 17),
         (twice.bytes(), 4),
         (left_over, 5),
         (per_value(257).bytes(), 6),

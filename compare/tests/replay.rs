@@ -7,7 +7,8 @@ use compare::builder::{
     sequence, value, Cross, Form, Point, Range, Table, TransitionBin, ValueBin,
 };
 use compare::random::{self, Caller, Rng};
-use compare::replay::{log, reason, refused_table, replay, replay_until, After, Entry};
+use compare::replay::{log, reason, replay, replay_until, After, Entry};
+use compare::table::{VALUE_BINS, VALUE_RANGES};
 use std::collections::BTreeMap;
 use std::ffi::OsStr;
 use std::fs;
@@ -177,7 +178,7 @@ fn logs_agree() {
         ("entry of no kind", 50),
         ("entry refused: 10", 20),
         ("entry refused: 13", 20),
-        ("table refused: 3", 5),
+        ("table refused: 15", 5),
     ] {
         let met = endings.get(how).copied().unwrap_or(0);
         assert!(met > least, "{how}: met only {met} times");
@@ -424,18 +425,27 @@ fn tables_that_are_refused() {
         Table::new(vec![Point::new(16)]).values(vec![
             ValueBin::cover(0, &[Range::Span(0, 256)]).form(Form::PerValue)
         ]);
-    for (number, bytes) in [
-        (1, [&good[..], &[0; 65_536]].concat()),
-        (2, good[..30].to_vec()),
-        (2, Vec::new()),
-        (3, [&[17, 0], &good[2..]].concat()),
-        (4, two_defaults.bytes()),
-        (5, [&good[..], &[0]].concat()),
-        (6, places.bytes()),
+    let spoiled = |section, name: &str, v| {
+        let mut written = places.written();
+        written.set(section, 0, name, v);
+        written.bytes
+    };
+    let (over, long) = (places.bytes(), [&good[..], &[0; 65_536]].concat());
+    for (head, number, bytes) in [
+        ("1", 1, long),
+        ("2 at byte 29", 2, good[..30].to_vec()),
+        ("2 at byte 0", 2, Vec::new()),
+        ("3 at byte 0", 3, [&[17, 0], &good[2..]].concat()),
+        ("4 at byte 23", 4, two_defaults.bytes()),
+        ("5 at byte 31", 5, [&good[..], &[0]].concat()),
+        ("6 at byte 56", 6, over),
+        ("15 at byte 16", 15, spoiled(VALUE_BINS, "kind", 4)),
+        ("16 at byte 34", 16, spoiled(VALUE_RANGES, "b", -1)),
+        ("17 at byte 18", 17, spoiled(VALUE_BINS, "number", 1)),
     ] {
         let table = file(&folder, "table", &bytes);
-        let expected = format!("no report: table refused: {number} ({})\n", reason(number));
-        assert_eq!(refused_table(number), expected);
+        let expected = format!("no report: table refused: {head} ({})\n", reason(number));
+        assert_eq!(replay(&bytes, &[]), expected);
         assert_eq!(run(&table, &log), expected);
     }
 }
@@ -904,7 +914,7 @@ fn usage_and_help() {
         "  partial report: entry N refused: NUMBER (REASON)\n",
         "  partial report: entry N of no kind: its first word is W, none of 0, 1, 2\n",
         "  partial report: log not read on from entry N  (",
-        "  no report: table refused: NUMBER (REASON)\n",
+        "  no report: table refused: NUMBER at byte PLACE (REASON)  (",
         "  no report: table not read\n",
         "  no report: log not opened\n",
         "  no report: a name is too long\n",
@@ -913,11 +923,11 @@ fn usage_and_help() {
     ] {
         assert!(help.contains(line), "{line}");
     }
-    for number in [1, 2, 3, 4, 5, 6, 9, 10, 13] {
+    for number in [1, 2, 3, 4, 5, 6, 15, 16, 17, 9, 10, 13] {
         let line = format!("\n  {number} ({})\n", reason(number));
         assert!(help.contains(&line), "{line}");
     }
-    assert!(help.lines().all(|line| line.len() <= 90));
+    assert!(help.lines().all(|line| line.len() <= 91));
     assert_eq!(said(Command::new(program()).arg("-h")), help);
     let long = said(Command::new(program()).args(["--help", "a", "b"]));
     assert_eq!(long, help);

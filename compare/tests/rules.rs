@@ -977,11 +977,11 @@ fn refused_tables() {
             .transitions(vec![TransitionBin::cover(1, &[sequence(&[1, 2])])])
             .cross(cross)
     };
-    let mut example = Example::of("refused_tables", &table(), ["number", "changes"]);
-    let mut refused: Vec<(u32, String)> = Vec::new();
+    let mut example = Example::of("refused_tables", &table(), ["number", "byte", "change"]);
+    let mut refused: Vec<(u32, usize, String)> = Vec::new();
     let mut note = |what: &str, bytes: &[u8]| {
-        let number = common::measure(bytes).number;
-        refused.push((number, what.into()));
+        let measure = common::measure(bytes);
+        refused.push((measure.number, measure.place, what.into()));
     };
     let set = |changes: &[(usize, usize, &str, i64)]| {
         let mut written = table().written();
@@ -999,6 +999,13 @@ fn refused_tables() {
     note("a bin of point 2", &set(&[(VALUE_BINS, 0, "point", 2)]));
     note("b2 with a guard", &set(&[(VALUE_BINS, 2, "guard", 0)]));
     note("b0 from 1 to 0", &set(&[(VALUE_RANGES, 0, "b", 0)]));
+    note("b0 from 16 to 1", &set(&[(VALUE_RANGES, 0, "a", 16)]));
+    note("b0 with no ranges", &set(&[(VALUE_BINS, 0, "ranges", 0)]));
+    note("b0 with number 1", &set(&[(VALUE_BINS, 0, "number", 1)]));
+    note(
+        "x0 with a third point that it does not count",
+        &set(&[(CROSSES, 0, "point 2", 1)]),
+    );
     note("t0 as 1[*1:33] => 2", &set(&[(STEPS, 0, "most", 33)]));
     let mut second = table();
     second.value_bins.push(ValueBin::default(0));
@@ -1032,17 +1039,15 @@ fn refused_tables() {
         &[over.clone(), vec![0]].concat(),
     );
     note("another table, of one bin for each of 257 values", &over);
-    for number in 0..=6 {
-        let own = refused.iter().filter(|(n, _)| *n == number);
-        let mut cell = String::new();
-        for (_, what) in own {
-            if cell.len() + what.len() > 140 {
-                example.row([text(number), std::mem::take(&mut cell)]);
-            }
-            let between = if cell.is_empty() { "" } else { "; " };
-            cell += &format!("{between}{what}");
+    for number in [0, 1, 2, 3, 15, 16, 17, 4, 5, 6] {
+        let own = refused.iter().filter(|(n, _, _)| *n == number);
+        for (_, place, what) in own {
+            let place = match number {
+                0 | 1 => "none".into(),
+                _ => place.to_string(),
+            };
+            example.row([text(number), place, what.clone()]);
         }
-        example.row([text(number), cell]);
     }
 }
 

@@ -11,7 +11,7 @@ static const char *in_words(uint32_t refusal) {
     case FLUVIQUEN_ACCEPTED: return "accepted";
     case FLUVIQUEN_TABLE_TOO_LONG: return "the table is over 65,536 bytes";
     case FLUVIQUEN_TABLE_CUT: return "a count or record of the table runs past its end";
-    case FLUVIQUEN_TABLE_FIELD: return "a count or field of the table is outside its allowed values";
+    case FLUVIQUEN_TABLE_COUNT: return "a section count or an owned count outside its limits";
     case FLUVIQUEN_TABLE_DISAGREES: return "counts, defaults, sequences, crosses or expressions of the table do not agree";
     case FLUVIQUEN_TABLE_LEFTOVER: return "the table has bytes after section ten";
     case FLUVIQUEN_TABLE_LIMITS: return "the table has over 256 places at a point, or over 1,024 products in a cross";
@@ -23,6 +23,9 @@ static const char *in_words(uint32_t refusal) {
     case FLUVIQUEN_SAMPLE_LENGTH: return "the sample has not 4 + 2 x points words";
     case FLUVIQUEN_SAMPLE_WIDTH: return "the sample has a value or unknown bit above a point's width";
     case FLUVIQUEN_NOT_THERE: return "there is no such place, point or item";
+    case FLUVIQUEN_TABLE_FIELD: return "a field outside its allowed values, or a guard at an ignore bin";
+    case FLUVIQUEN_TABLE_VALUE: return "a, b, lo or hi outside the point's type, out of order, or a pattern outside its mask";
+    case FLUVIQUEN_TABLE_UNUSED: return "an unused field without its unused value";
     default: return "refused";
     }
 }
@@ -35,9 +38,38 @@ static void must(const char *call, uint32_t refusal) {
     }
 }
 
+/* Says why a table is refused, and which byte to look at; a table that is too long has none. */
+static void say_refused(uint32_t refusal, size_t at) {
+    if (refusal == FLUVIQUEN_TABLE_TOO_LONG) {
+        printf("table refused: %u (%s)\n", refusal, in_words(refusal));
+    } else {
+        printf("table refused: %u at byte %zu (%s)\n", refusal, at, in_words(refusal));
+    }
+}
+
+/* The table with an illegal bin from 1 to 0: what an engineer is told. */
+static void try_backwards(void) {
+    static const uint8_t backwards[56] = {
+        1, 0, 1, 0, 255, 1, 0, 1, 0, 0, 0, 64, 0,
+        1, 0, 0, 2, 0, 0, 0, 255, 1, 0,
+        1, 0, 0, 1
+    };
+    uint32_t words, illegal;
+    size_t at;
+    uint32_t refusal = fluviquen_measure(backwards, sizeof backwards, &words, &illegal, &at);
+    if (refusal != FLUVIQUEN_ACCEPTED) {
+        say_refused(refusal, at);
+    }
+}
+
 int main(void) {
     uint32_t words, illegal;
-    must("measure", fluviquen_measure(table, sizeof table, &words, &illegal));
+    size_t at;
+    uint32_t refusal = fluviquen_measure(table, sizeof table, &words, &illegal, &at);
+    if (refusal != FLUVIQUEN_ACCEPTED) {
+        say_refused(refusal, at);
+        return 1;
+    }
     printf("register words %u, illegal places %u\n", words, illegal);
 
     uint32_t *reg = calloc(words, sizeof *reg);
@@ -75,8 +107,9 @@ int main(void) {
     if (present == 1) {
         printf("group: %u millionths of a percent\n", millionths);
     }
-    uint32_t refusal = fluviquen_place_count(table, sizeof table, reg, words, 2, &count);
+    refusal = fluviquen_place_count(table, sizeof table, reg, words, 2, &count);
     printf("place 2: refusal %u (%s)\n", refusal, in_words(refusal));
+    try_backwards();
     free(report);
     free(reg);
     return refusal != FLUVIQUEN_NOT_THERE;

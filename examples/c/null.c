@@ -36,10 +36,11 @@ static void untouched(const char *what) {
 
 static void tables(void) {
     uint32_t words = OTHER, illegal = OTHER;
-    size_t start = OTHER, len = OTHER;
-    expect("measure", fluviquen_measure(NULL, 0, &words, &illegal), FLUVIQUEN_TABLE_CUT);
+    size_t place = OTHER, start = OTHER, len = OTHER;
+    expect("measure", fluviquen_measure(NULL, 0, &words, &illegal, &place), FLUVIQUEN_TABLE_CUT);
     expect("measure's words", words, 0);
     expect("measure's illegal places", illegal, 0);
+    expect("measure's place", (uint32_t)place, 0);
     expect("section", fluviquen_section(NULL, 0, 1, &start, &len), FLUVIQUEN_TABLE_CUT);
     expect("section's start", (uint32_t)start, 0);
     expect("section's length", (uint32_t)len, 0);

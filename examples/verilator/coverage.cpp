@@ -42,7 +42,12 @@ extern "C" void coverage_begin() {
     table.resize(std::fread(table.data(), 1, table.size(), file));
     std::fclose(file);
     uint32_t words, illegal;
-    accepted(fluviquen_measure(table.data(), table.size(), &words, &illegal), "yarn.table");
+    size_t place;
+    uint32_t refusal = fluviquen_measure(table.data(), table.size(), &words, &illegal, &place);
+    if (refusal != FLUVIQUEN_ACCEPTED) {
+        std::fprintf(stderr, "coverage: yarn.table is refused with %u at byte %zu\n", refusal, place);
+        std::exit(1);
+    }
     reg.resize(words);
     illegals = illegal;
     reports.resize(illegals * BUFFER);

@@ -38,10 +38,19 @@ mod sys;
 pub use refusal::{Halted, Refusal};
 pub use register::Register;
 
-fn accepted(number: u32) -> Result<(), Refusal> {
+fn accepted_at(number: u32, place: usize) -> Result<(), Refusal> {
     match number {
         0 => Ok(()),
-        number => Err(Refusal::from_number(number).expect("a number of the library")),
+        number => Err(Refusal::from_number(number, place).expect("a number of the library")),
+    }
+}
+
+/// A call's number. Where it refuses the table, measuring tells the place: a
+/// table's refusal depends on its bytes alone.
+fn accepted(table: &[u8], number: u32) -> Result<(), Refusal> {
+    match accepted_at(number, 0) {
+        Err(refusal) if refusal.is_of_table() => accepted_at(number, raw::measure(table).3),
+        answer => answer,
     }
 }
 
@@ -52,10 +61,10 @@ pub struct Measure {
     pub illegal_places: usize,
 }
 
-/// Measures a table, or says why it is refused.
+/// Measures a table, or says why it is refused, and at which byte.
 pub fn measure(table: &[u8]) -> Result<Measure, Refusal> {
-    let (number, words, illegal_places) = raw::measure(table);
-    accepted(number)?;
+    let (number, words, illegal_places, place) = raw::measure(table);
+    accepted_at(number, place)?;
     Ok(Measure {
         words: words as usize,
         illegal_places: illegal_places as usize,
@@ -65,7 +74,7 @@ pub fn measure(table: &[u8]) -> Result<Measure, Refusal> {
 /// The records of section 1 to 10, without their count; empty for another number.
 pub fn section(table: &[u8], number: u32) -> Result<&[u8], Refusal> {
     let (refusal, start, len) = raw::section(table, number);
-    accepted(refusal)?;
+    accepted(table, refusal)?;
     Ok(&table[start..start + len])
 }
 
@@ -106,17 +115,17 @@ impl<'a> Table<'a> {
 
 /// Begins anew: running, all counts 0. Words beyond the register stay.
 pub fn reset(table: &[u8], register: &mut [u32]) -> Result<(), Refusal> {
-    accepted(raw::reset(table, register))
+    accepted(table, raw::reset(table, register))
 }
 
 /// Runs a stopped register again: sequences begin anew, counts stay.
 pub fn start(table: &[u8], register: &mut [u32]) -> Result<(), Refusal> {
-    accepted(raw::start(table, register))
+    accepted(table, raw::start(table, register))
 }
 
 /// Stops a register: it takes no samples until it is started.
 pub fn stop(table: &[u8], register: &mut [u32]) -> Result<(), Refusal> {
-    accepted(raw::stop(table, register))
+    accepted(table, raw::stop(table, register))
 }
 
 /// Takes a sample: guard bits (two words), unknown guard bits (two words), then
@@ -129,7 +138,7 @@ pub fn sample(
     sample: &[u32],
     report: &mut [u32],
 ) -> Result<(), Refusal> {
-    accepted(raw::sample(table, register, sample, report))
+    accepted(table, raw::sample(table, register, sample, report))
 }
 
 /// Takes samples one after another, each exactly as [`sample`] does, up to the
@@ -144,7 +153,7 @@ pub fn samples(
     reports: &mut [u32],
 ) -> Result<usize, Halted> {
     let (number, taken) = raw::samples(table, register, samples, reports);
-    match accepted(number) {
+    match accepted(table, number) {
         Ok(()) => Ok(taken),
         Err(refusal) => Err(Halted { taken, refusal }),
     }
@@ -153,25 +162,25 @@ pub fn samples(
 /// A place's count.
 pub fn place_count(table: &[u8], register: &[u32], place: usize) -> Result<u32, Refusal> {
     let (number, count) = raw::place_count(table, register, place);
-    accepted(number).map(|()| count)
+    accepted(table, number).map(|()| count)
 }
 
 /// How often a point's reading was unknown.
 pub fn unknown_count(table: &[u8], register: &[u32], point: usize) -> Result<u32, Refusal> {
     let (number, count) = raw::unknown_count(table, register, point);
-    accepted(number).map(|()| count)
+    accepted(table, number).map(|()| count)
 }
 
 /// An item's coverage in percent; none if it has nothing to cover. Items are the
 /// points, then the crosses.
 pub fn item_figure(table: &[u8], register: &[u32], item: usize) -> Result<Option<f64>, Refusal> {
     let (number, present, percent) = raw::item_figure(table, register, item);
-    accepted(number).map(|()| (present == 1).then_some(percent))
+    accepted(table, number).map(|()| (present == 1).then_some(percent))
 }
 
 /// The group's coverage in millionths of a percent; none if no weighted item has
 /// anything to cover.
 pub fn group_figure(table: &[u8], register: &[u32]) -> Result<Option<u32>, Refusal> {
     let (number, present, millionths) = raw::group_figure(table, register);
-    accepted(number).map(|()| (present == 1).then_some(millionths))
+    accepted(table, number).map(|()| (present == 1).then_some(millionths))
 }

@@ -4,13 +4,14 @@
 
 use crate::sys::*;
 
-/// Number, words of a register, words of a report.
-pub fn measure(table: &[u8]) -> (u32, u32, u32) {
-    let (mut words, mut illegal_places) = (u32::MAX, u32::MAX);
+/// Number, words of a register, words of a report, the byte at fault.
+pub fn measure(table: &[u8]) -> (u32, u32, u32, usize) {
+    let (mut words, mut illegal_places, mut place) = (u32::MAX, u32::MAX, usize::MAX);
+    let (table, size) = (table.as_ptr(), table.len());
+    let (w, i, p) = (&mut words, &mut illegal_places, &mut place);
     // Here and below, the pointers and lengths are those of live slices and locals.
-    let number =
-        unsafe { fluviquen_measure(table.as_ptr(), table.len(), &mut words, &mut illegal_places) };
-    (number, words, illegal_places)
+    let number = unsafe { fluviquen_measure(table, size, w, i, p) };
+    (number, words, illegal_places, place)
 }
 
 /// Number, start and length of a section's records.

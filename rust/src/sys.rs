@@ -6,6 +6,7 @@ extern "C" {
         table_len: usize,
         words: *mut u32,
         illegal_places: *mut u32,
+        place: *mut usize,
     ) -> u32;
     pub fn fluviquen_section(
         table: *const u8,

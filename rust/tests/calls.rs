@@ -48,10 +48,11 @@ fn the_smallest_table() {
 fn refusals() {
     let bytes = smallest();
     let mut register = Table::new(&bytes).unwrap().register();
-    assert_eq!(number(measure(&vec![0; 65_537])), 1);
-    assert_eq!(number(measure(&[])), 2);
-    assert_eq!(number(measure(&[0, 0])), 3);
-    assert_eq!(number(measure(&[&bytes[..], &[0]].concat())), 5);
+    assert_eq!(measure(&vec![0; 65_537]), Err(Refusal::TableTooLong));
+    assert_eq!(measure(&[]), Err(Refusal::TableCut { place: 0 }));
+    assert_eq!(measure(&[0, 0]), Err(Refusal::TableCount { place: 0 }));
+    let longer = [&bytes[..], &[0]].concat();
+    assert_eq!(measure(&longer), Err(Refusal::TableLeftover { place: 31 }));
     assert_eq!(number(reset(&bytes, &mut register[..4])), 7);
     assert_eq!(number(start(&bytes, &mut [2, 0, 0, 0, 0])), 8);
     let last = &mut [1, u32::MAX, 0, 0, 0];
@@ -67,8 +68,51 @@ fn refusals() {
     assert_eq!(number(item_figure(&bytes, &register, 1)), 14);
     assert_eq!(register, [1, 0, 0, 0, 0]);
     let refusal = group_figure(&bytes, &[]).unwrap_err();
-    let said = "refusal 7: the register is shorter than the table needs";
-    assert_eq!(refusal.to_string(), said);
+    let said = "refused: 7 (the register is shorter than the table needs)";
+    assert_eq!((refusal.to_string(), refusal.place()), (said.into(), None));
+}
+
+/// A table's refusal has the byte at fault, whichever call gives it.
+#[test]
+fn refused_tables() {
+    let spoiled = |place: usize, byte| {
+        let mut bytes = watched();
+        bytes[place] = byte;
+        bytes
+    };
+    // The width, the last byte of a, b, and the illegal bin's number.
+    for (place, byte, refusal) in [
+        (2, 33, Refusal::TableField { place: 2 }),
+        (33, 1, Refusal::TableValue { place: 26 }),
+        (34, 2, Refusal::TableValue { place: 34 }),
+        (18, 1, Refusal::TableUnused { place: 18 }),
+        (21, 2, Refusal::TableDisagrees { place: 23 }),
+    ] {
+        let bytes = spoiled(place, byte);
+        assert!(refusal.is_of_table());
+        assert_eq!(measure(&bytes), Err(refusal));
+        assert_eq!(Table::new(&bytes).err(), Some(refusal));
+        assert_eq!(section(&bytes, 1), Err(refusal));
+        assert_eq!(reset(&bytes, &mut [0; 9]), Err(refusal));
+        assert_eq!(start(&bytes, &mut [0; 9]), Err(refusal));
+        assert_eq!(stop(&bytes, &mut [0; 9]), Err(refusal));
+        assert_eq!(sample(&bytes, &mut [0; 9], &ONE, &mut [0]), Err(refusal));
+        let halted = Err(Halted { taken: 0, refusal });
+        assert_eq!(samples(&bytes, &mut [0; 9], &ONE, &mut [0]), halted);
+        assert_eq!(place_count(&bytes, &[0; 9], 0), Err(refusal));
+        assert_eq!(unknown_count(&bytes, &[0; 9], 0), Err(refusal));
+        assert_eq!(item_figure(&bytes, &[0; 9], 0), Err(refusal));
+        assert_eq!(group_figure(&bytes, &[0; 9]), Err(refusal));
+    }
+    let said = "table refused: 16 at byte 34 (a, b, lo or hi outside the point's type, \
+                out of order, or a pattern outside its mask)";
+    assert_eq!(measure(&spoiled(34, 2)).unwrap_err().to_string(), said);
+    let too_long = measure(&vec![0; 65_537]).unwrap_err();
+    let said = "table refused: 1 (the table is over 65,536 bytes)";
+    assert_eq!(
+        (too_long.to_string(), too_long.place()),
+        (said.into(), None)
+    );
 }
 
 /// One unsigned point of two bits with an illegal bin for 3: an illegal place.
@@ -116,7 +160,7 @@ fn a_batch() {
     let answer = samples(&bytes, &mut register, &words[..17], &mut reports);
     assert_eq!(answer, halted(2, Refusal::SampleLength));
     assert_eq!(register[1], 4);
-    let said = "after 2 samples, refusal 12: the sample has not 4 + 2 x points words";
+    let said = "after 2 samples, refused: 12 (the sample has not 4 + 2 x points words)";
     assert_eq!(answer.unwrap_err().to_string(), said);
     // No words: the table and the register are tested.
     assert_eq!(samples(&bytes, &mut register, &[], &mut []), Ok(0));
@@ -127,7 +171,7 @@ fn a_batch() {
     let answer = samples(&bytes, &mut register[..3], &[], &mut []);
     assert_eq!(answer, halted(0, Refusal::RegisterShort));
     let answer = samples(&bytes[..3], &mut register, &[], &mut []);
-    assert_eq!(answer, halted(0, Refusal::TableCut));
+    assert_eq!(answer, halted(0, Refusal::TableCut { place: 2 }));
 }
 
 /// A register with its table: the same answers as the plain functions.
@@ -173,20 +217,23 @@ fn a_register_with_its_table() {
 #[test]
 fn names_of_the_header() {
     let names = [
-        ("TABLE_TOO_LONG", Refusal::TableTooLong),
-        ("TABLE_CUT", Refusal::TableCut),
-        ("TABLE_FIELD", Refusal::TableField),
-        ("TABLE_DISAGREES", Refusal::TableDisagrees),
-        ("TABLE_LEFTOVER", Refusal::TableLeftover),
-        ("TABLE_LIMITS", Refusal::TableLimits),
-        ("REGISTER_SHORT", Refusal::RegisterShort),
-        ("REGISTER_IMPOSSIBLE", Refusal::RegisterImpossible),
-        ("REGISTER_FULL", Refusal::RegisterFull),
-        ("REGISTER_STOPPED", Refusal::RegisterStopped),
-        ("REPORT_SHORT", Refusal::ReportShort),
-        ("SAMPLE_LENGTH", Refusal::SampleLength),
-        ("SAMPLE_WIDTH", Refusal::SampleWidth),
-        ("NOT_THERE", Refusal::NotThere),
+        "TABLE_TOO_LONG",
+        "TABLE_CUT",
+        "TABLE_COUNT",
+        "TABLE_DISAGREES",
+        "TABLE_LEFTOVER",
+        "TABLE_LIMITS",
+        "REGISTER_SHORT",
+        "REGISTER_IMPOSSIBLE",
+        "REGISTER_FULL",
+        "REGISTER_STOPPED",
+        "REPORT_SHORT",
+        "SAMPLE_LENGTH",
+        "SAMPLE_WIDTH",
+        "NOT_THERE",
+        "TABLE_FIELD",
+        "TABLE_VALUE",
+        "TABLE_UNUSED",
     ];
     let header = include_str!("../../include/fluviquen.h");
     let (_, after) = header.split_once("enum fluviquen_refusal {").unwrap();
@@ -195,15 +242,27 @@ fn names_of_the_header() {
     let lines: Vec<&str> = lines.into_iter().filter(|line| !line.is_empty()).collect();
     assert_eq!(lines[0], "FLUVIQUEN_ACCEPTED = 0,");
     assert_eq!(lines.len(), 1 + names.len());
-    assert_eq!(names.map(|(_, refusal)| refusal), Refusal::ALL);
-    assert_eq!(Refusal::from_number(0), None);
-    for ((name, refusal), line) in names.iter().zip(&lines[1..]) {
+    assert_eq!(Refusal::from_number(0, 0), None);
+    assert_eq!(Refusal::from_number(18, 0), None);
+    for ((number, name), line) in (1..).zip(names).zip(&lines[1..]) {
+        let refusal = Refusal::from_number(number, 5).unwrap();
+        assert_eq!(refusal.number(), number);
         let (code, comment) = line.split_once("/*").unwrap();
-        let expected = format!("FLUVIQUEN_{name} = {}", refusal.number());
+        let expected = format!("FLUVIQUEN_{name} = {number}");
         assert_eq!(code.trim().trim_end_matches(','), expected);
-        assert_eq!(Refusal::from_number(refusal.number()), Some(*refusal));
+        // TABLE_CUT is TableCut.
+        let words = name.split('_');
+        let words = words.map(|word| word[..1].to_string() + &word[1..].to_lowercase());
+        let variant = format!("{refusal:?}");
+        assert_eq!(
+            variant.split(' ').next().unwrap(),
+            words.collect::<String>()
+        );
         let said = comment.trim_end_matches("*/").trim();
         assert!(said.starts_with(refusal.reason()), "{said}");
+        let placed = name.starts_with("TABLE") && name != "TABLE_TOO_LONG";
+        assert_eq!(refusal.place(), placed.then_some(5));
+        assert_eq!(refusal.is_of_table(), name.starts_with("TABLE"));
     }
     let version = format!(
         "#define FLUVIQUEN_VERSION \"{}\"",

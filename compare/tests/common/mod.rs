@@ -2,10 +2,114 @@
 #![allow(dead_code)]
 
 use compare::book::{Book, Fed, Rules};
-use compare::builder::Table;
+use compare::builder::{
+    sequence, value, Cross, Form, Kind, Point, Range, Select, Step, Table, TransitionBin, ValueBin,
+};
 use compare::calls::{self, Answer, Call, Outcome, UNTOUCHED};
 use compare::register::Model;
-use compare::table;
+use compare::table::{
+    self, CROSSES, CROSS_BINS, POINTS, SEQUENCES, STEPS, STEP_RANGES, TOKENS, TRANSITION_BINS,
+    VALUE_BINS, VALUE_RANGES,
+};
+
+/// A table with records in every section.
+pub fn full() -> Table {
+    let points = vec![Point::new(4), Point::signed(4), Point::new(3)];
+    let values = vec![
+        ValueBin::cover(0, &[Range::Span(1, 2)]).guard(3),
+        ValueBin::cover(0, &[Range::Span(3, 8)]).form(Form::Number(2)),
+        ValueBin::ignore(0, &[value(9)]),
+        ValueBin::illegal(0, &[value(10)]),
+        ValueBin::default(0),
+        ValueBin::cover(1, &[Range::Span(-3, 2)]).form(Form::PerValue),
+        ValueBin::cover(0, &[Range::Pattern(8, 12)]),
+    ];
+    let repeated = vec![
+        Step::new(&[value(4)]).repeat(2, 3),
+        Step::new(&[Range::Pattern(1, 1), value(6)]),
+        Step::new(&[Range::Span(2, 5)]),
+    ];
+    let transitions = vec![
+        TransitionBin::cover(0, &[sequence(&[1, 2]), repeated]),
+        TransitionBin::ignore(1, &[sequence(&[-1, 1])]),
+        TransitionBin::illegal(2, &[sequence(&[3, 3])]).guard(63),
+    ];
+    let select = Select::bin(0, 0).and(Select::meets(1, 0, 1).negated());
+    let cross = Cross::new(&[0, 1])
+        .guard(0)
+        .bin(Kind::Cover, select)
+        .bin(Kind::Ignore, Select::Whole(1));
+    Table::new(points)
+        .values(values)
+        .transitions(transitions)
+        .cross(cross)
+}
+
+/// A cross of four points.
+pub fn four() -> Table {
+    Table::new(vec![Point::new(1); 4]).cross(Cross::new(&[3, 1, 0, 2]))
+}
+
+/// Which of 3, 15, 16 and 17 a count or a field can cause.
+pub const FAULTS: [(u32, usize, &str); 57] = [
+    (3, POINTS, "count"),
+    (3, VALUE_BINS, "count"),
+    (3, VALUE_RANGES, "count"),
+    (3, TRANSITION_BINS, "count"),
+    (3, SEQUENCES, "count"),
+    (3, STEPS, "count"),
+    (3, STEP_RANGES, "count"),
+    (3, CROSSES, "count"),
+    (3, CROSS_BINS, "count"),
+    (3, TOKENS, "count"),
+    (3, VALUE_BINS, "ranges"),
+    (3, TRANSITION_BINS, "sequences"),
+    (3, SEQUENCES, "steps"),
+    (3, STEPS, "ranges"),
+    (3, CROSSES, "cross bins"),
+    (3, CROSS_BINS, "tokens"),
+    (15, POINTS, "width"),
+    (15, POINTS, "signed"),
+    (15, POINTS, "guard"),
+    (15, POINTS, "at-least"),
+    (15, POINTS, "auto-max"),
+    (15, VALUE_BINS, "point"),
+    (15, VALUE_BINS, "kind"),
+    (15, VALUE_BINS, "form"),
+    (15, VALUE_BINS, "number"),
+    (15, VALUE_BINS, "guard"),
+    (15, VALUE_RANGES, "kind"),
+    (15, TRANSITION_BINS, "point"),
+    (15, TRANSITION_BINS, "kind"),
+    (15, TRANSITION_BINS, "guard"),
+    (15, STEPS, "least"),
+    (15, STEPS, "most"),
+    (15, STEP_RANGES, "kind"),
+    (15, CROSSES, "points"),
+    (15, CROSSES, "point 0"),
+    (15, CROSSES, "point 1"),
+    (15, CROSSES, "point 2"),
+    (15, CROSSES, "point 3"),
+    (15, CROSSES, "guard"),
+    (15, CROSSES, "at-least"),
+    (15, CROSS_BINS, "kind"),
+    (15, CROSS_BINS, "guard"),
+    (15, TOKENS, "op"),
+    (15, TOKENS, "position"),
+    (16, VALUE_RANGES, "a"),
+    (16, VALUE_RANGES, "b"),
+    (16, STEP_RANGES, "a"),
+    (16, STEP_RANGES, "b"),
+    (16, TOKENS, "lo"),
+    (16, TOKENS, "hi"),
+    (17, VALUE_BINS, "number"),
+    (17, CROSSES, "point 2"),
+    (17, CROSSES, "point 3"),
+    (17, TOKENS, "position"),
+    (17, TOKENS, "bin"),
+    (17, TOKENS, "lo"),
+    (17, TOKENS, "hi"),
+];
 
 /// Words beyond the register, which no call may touch.
 pub const BEYOND: usize = 3;

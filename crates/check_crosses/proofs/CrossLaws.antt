@@ -49,13 +49,13 @@ points-different s at h =
 -- the tests by their fields, the points one by one
 verdict-cross : (s : List ℕ) (points at : ℕ)
     → verdictOf (readCross s points at)
-    ≡ unlessOk (leb (at + 13) (length s)) 2 at (unlessOk (within 2 4 (byte s at)) 6 at
+    ≡ unlessOk (leb (at + 13) (length s)) 2 at (unlessOk (within 2 4 (byte s at)) 15 at
     (verdictIn (crossPointTest s points at 0 ∷ []) (verdictIn (crossPointTest s points at 1 ∷ []) (verdictIn (crossPointTest s points at 2 ∷ []) (verdictIn (crossPointTest s points at 3 ∷ [])
     (verdictIn (crossEnd s at) (verdict 0 (at + 13))))))))
 unfolding readCross verdictIn upFrom crossEnd
 verdict-cross s points at =
     verdict-record s 13 (crossTests s points) (crossHead s) at
-    ∙ ap (unlessOk (leb (at + 13) (length s)) 2 at) (unless-same (within 2 4 (byte s at)) 6 at _ _ λ h. ap (λ (b : Bool). after b) (points-different s at h))
+    ∙ ap (unlessOk (leb (at + 13) (length s)) 2 at) (unless-same (within 2 4 (byte s at)) 15 at _ _ λ h. ap (λ (b : Bool). after b) (points-different s at h))
   where
     after : Bool → Verdict
     after b =
@@ -68,7 +68,7 @@ verdict-cross s points at =
 
 -- one that is whole: its tests
 pub cross-whole : (s : List ℕ) (points at : ℕ) (r : Verdict) → at + 13 ≤ length s
-    → r ≡ unlessOk (within 2 4 (byte s at)) 6 at
+    → r ≡ unlessOk (within 2 4 (byte s at)) 15 at
     (verdictIn (crossPointTest s points at 0 ∷ []) (verdictIn (crossPointTest s points at 1 ∷ []) (verdictIn (crossPointTest s points at 2 ∷ []) (verdictIn (crossPointTest s points at 3 ∷ [])
     (verdictIn (crossEnd s at) (verdict 0 (at + 13)))))))
     → r ≡ verdictOf (readCross s points at)
@@ -99,7 +99,7 @@ cross-ok s points at h = record {
     go (suc (suc (suc (suc j)))) l = absurd (omega (arith, four))
 
 -- the crosses of a section that is sound
-pub crosses-ok : (s : List ℕ) (points at : ℕ) (r : Verdict) → r ≡ verdictOf (readCrossSection s points at) → r .class ≡ 0 → CrossesOk s points (at + 2) (u16 s at)
+pub crosses-ok : (s : List ℕ) (points at : ℕ) (r : Verdict) → r ≡ verdictOf (readCrossSection s points at) → r .number ≡ 0 → CrossesOk s points (at + 2) (u16 s at)
 unfolding readCrossSection readCross
 crosses-ok s points at r e z i l =
     sound-got (readCrossSection s points at) r e z λ xs g.
@@ -121,7 +121,7 @@ bins-flat s = each-times (readCrossBins s) (readCrossBin s []) crossBinsOwned λ
     sym (bind-done (times (h .bins) (readCrossBin s (h .points))) (λ bs. record { head = h; bins = bs }) at _ refl)
     ∙ times-same (readCrossBin s (h .points)) (readCrossBin s []) (verdict-bin s (h .points)) (h .bins) at
 
-pub bins-on : (s : List ℕ) (c n at sum : ℕ) (q y : Verdict) → sum ≡ sumFrom 0 crossBinsOwned (crossHead s) 13 c n → q ≡ verdictOf (ownedCount s 128 sum at) → q .class ≡ 0
+pub bins-on : (s : List ℕ) (c n at sum : ℕ) (q y : Verdict) → sum ≡ sumFrom 0 crossBinsOwned (crossHead s) 13 c n → q ≡ verdictOf (ownedCount s 128 sum at) → q .number ≡ 0
     → y ≡ verdictOf (times sum (readCrossBin s []) (q .at)) → y ≡ verdictOf (readCrossBinSection s (rows (crossHead s) 13 c n) at)
 unfolding readCrossBinSection sumFrom
 bins-on s c n at sum q y own e z h =

@@ -26,37 +26,37 @@ use Rattle.words.proofs.Chain.{says-in, count-stop, count-on}
 
 -- ---- one cross bin
 
-verdict-one : (o : Option (List Select)) (end : ℕ) → verdictOf (oneExpression o end) ≡ unlessOk (found 1 o) 7 (end - 20) (verdict 0 end)
+verdict-one : (o : Option (List Select)) (end : ℕ) → verdictOf (oneExpression o end) ≡ unlessOk (found 1 o) 4 (end - 20) (verdict 0 end)
 unfolding verdictOf found
 verdict-one none end = refl
 verdict-one (some []) end = refl
 verdict-one (some (e ∷ [])) end = refl
-verdict-one (some (e ∷ f ∷ es)) end = sym (ap (λ (b : Bool). unlessOk b 7 (end - 20) (verdict 0 end)) (eqb·suc-suc 0 (suc (length es)) ∙ eqb·zero-suc (length es)))
+verdict-one (some (e ∷ f ∷ es)) end = sym (ap (λ (b : Bool). unlessOk b 4 (end - 20) (verdict 0 end)) (eqb·suc-suc 0 (suc (length es)) ∙ eqb·zero-suc (length es)))
 
 module _ (s : List ℕ) (ps : List Point) (bins : List BinHead) (c b n at : ℕ) (q : Verdict) (number : n ≡ byte s (b + 2)) (e : q ≡ verdictOf (times n (readToken s ps bins (crossPoints s c)) at)) where
   tokens-read : q ≡ verdictOf (times (byte s (b + 2)) (readToken s ps bins (crossPoints s c)) at)
   tokens-read = e ∙ ap (λ (k : ℕ). verdictOf (times k (readToken s ps bins (crossPoints s c)) at)) number
 
-  pub select-stop : (q .class ≡ 0 → ⊥) → q ≡ verdictOf (readSelect s ps bins (crossBinHead s (crossPoints s c) b) at)
+  pub select-stop : (q .number ≡ 0 → ⊥) → q ≡ verdictOf (readSelect s ps bins (crossBinHead s (crossPoints s c) b) at)
   unfolding readSelect
   select-stop z = bind-stop (times (byte s (b + 2)) (readToken s ps bins (crossPoints s c))) _ at q tokens-read z
 
-  pub select-on : (one : Bool) (last : ℕ) (end y : Verdict) → q .class ≡ 0 → one ≡ found 1 (expressions (rows (tokenRecord s) 20 at n)) → last ≡ q .at - 20 → end ≡ verdict 0 (q .at) → y ≡ unlessOk one 7 last end
+  pub select-on : (one : Bool) (last : ℕ) (end y : Verdict) → q .number ≡ 0 → one ≡ found 1 (expressions (rows (tokenRecord s) 20 at n)) → last ≡ q .at - 20 → end ≡ verdict 0 (q .at) → y ≡ unlessOk one 4 last end
       → y ≡ verdictOf (readSelect s ps bins (crossBinHead s (crossPoints s c) b) at)
   unfolding readSelect readToken
   select-on one last end y z o l v h =
       rows-on s 20 (tokenTests s ps bins (crossPoints s c)) (tokenRecord s) _ (byte s (b + 2)) at q y tokens-read z
       (bind-done (oneExpression (expressions (rows (tokenRecord s) 20 at (byte s (b + 2))))) _ (q .at) y
-      (h ∙ ap₂ (unlessOk one 7) l v ∙ ap (λ (x : Bool). unlessOk x 7 (q .at - 20) (verdict 0 (q .at))) (o ∙ ap (λ (k : ℕ). found 1 (expressions (rows (tokenRecord s) 20 at k))) number)
+      (h ∙ ap₂ (unlessOk one 4) l v ∙ ap (λ (x : Bool). unlessOk x 4 (q .at - 20) (verdict 0 (q .at))) (o ∙ ap (λ (k : ℕ). found 1 (expressions (rows (tokenRecord s) 20 at k))) number)
       ∙ sym (verdict-one (expressions (rows (tokenRecord s) 20 at (byte s (b + 2)))) (q .at))))
 
 -- ---- the bins of one cross, and those of all
 
 module _ (s : List ℕ) (ps : List Point) (bins : List BinHead) where
-  pub select-in : (c b at : ℕ) (r : Verdict) → at ≤ length s → r ≡ verdictOf (readSelect s ps bins (crossBinHead s (crossPoints s c) b) at) → r .class ≡ 0 → r .at ≤ length s
+  pub select-in : (c b at : ℕ) (r : Verdict) → at ≤ length s → r ≡ verdictOf (readSelect s ps bins (crossBinHead s (crossPoints s c) b) at) → r .number ≡ 0 → r .at ≤ length s
   select-in c b at r h e z = says-in _ _ _ (length s) r (select-of s ps bins c b at h) e z
 
-  pub selects-end : (c b n at : ℕ) (r : Verdict) → at ≤ length s → r ≡ verdictOf (each (readSelect s ps bins) (crossBinHeadsAt s c b n) at) → r .class ≡ 0 → r .at ≤ length s
+  pub selects-end : (c b n at : ℕ) (r : Verdict) → at ≤ length s → r ≡ verdictOf (each (readSelect s ps bins) (crossBinHeadsAt s c b n) at) → r .number ≡ 0 → r .at ≤ length s
   selects-end c b n at r h e z = says-in _ _ _ (length s) r (selects-in s ps bins c n b at h) e z
 
   -- the bins of the cross at c, k in number
@@ -79,12 +79,12 @@ module _ (s : List ℕ) (ps : List Point) (bins : List BinHead) where
     unfolding crossHeadsAt
     parts k e h = ap (crossHeadsAt s c b) (one-left m i h) ∙ ap (λ (k : ℕ). partsAt c b k ∷ crossHeadsAt s (c + 13) (b + 3 * k) (m - (i + 1))) (sym e)
 
-    pub heads-stop : (k : ℕ) (r : Verdict) → k ≡ byte s (c + 12) → i < m → r ≡ verdictOf (each (readSelect s ps bins) (crossBinHeadsAt s c b k) at) → (r .class ≡ 0 → ⊥) → r ≡ x
+    pub heads-stop : (k : ℕ) (r : Verdict) → k ≡ byte s (c + 12) → i < m → r ≡ verdictOf (each (readSelect s ps bins) (crossBinHeadsAt s c b k) at) → (r .number ≡ 0 → ⊥) → r ≡ x
     heads-stop k r e h f z =
         owners-stop (readSelects s ps bins) (crossHeadsAt s c b (m - i)) at x inv (partsAt c b k) (crossHeadsAt s (c + 13) (b + 3 * k) (m - (i + 1))) r (parts k e h)
         (f ∙ sym (verdict-cross-bins c b k at)) z
 
-    pub heads-on : (k : ℕ) (r : Verdict) → k ≡ byte s (c + 12) → i < m → r ≡ verdictOf (each (readSelect s ps bins) (crossBinHeadsAt s c b k) at) → r .class ≡ 0
+    pub heads-on : (k : ℕ) (r : Verdict) → k ≡ byte s (c + 12) → i < m → r ≡ verdictOf (each (readSelect s ps bins) (crossBinHeadsAt s c b k) at) → r .number ≡ 0
         → x ≡ verdictOf (each (readSelects s ps bins) (crossHeadsAt s (c + 13) (b + 3 * k) (m - (i + 1))) (r .at))
     heads-on k r e h f z =
         owners-on (readSelects s ps bins) (crossHeadsAt s c b (m - i)) at x inv (partsAt c b k) (crossHeadsAt s (c + 13) (b + 3 * k) (m - (i + 1))) r (parts k e h)
@@ -123,10 +123,10 @@ tokens-counted s c b n m sum e f =
 -- ---- the section
 
 module _ (s : List ℕ) (ps : List Point) (bins : List BinHead) (c b n m at sum : ℕ) (q : Verdict) (e : m ≡ sumFrom 0 crossBinsOwned (crossHead s) 13 c n) (f : sum ≡ sumFrom 0 tokensOf (crossBinHead s []) 3 b m) (g : q ≡ verdictOf (ownedCount s 1024 sum at)) where
-  pub tokens-stop : (q .class ≡ 0 → ⊥) → q ≡ verdictOf (readTokenSection s ps bins (crossHeadsAt s c b n) at)
+  pub tokens-stop : (q .number ≡ 0 → ⊥) → q ≡ verdictOf (readTokenSection s ps bins (crossHeadsAt s c b n) at)
   unfolding readTokenSection
   tokens-stop z = count-stop s 1024 at sum (sumOf tokensOwned (crossHeadsAt s c b n)) _ (tokens-counted s c b n m sum e f) q g z
 
-  pub tokens-on : (y : Verdict) → q .class ≡ 0 → y ≡ verdictOf (each (readSelects s ps bins) (crossHeadsAt s c b n) (q .at)) → y ≡ verdictOf (readTokenSection s ps bins (crossHeadsAt s c b n) at)
+  pub tokens-on : (y : Verdict) → q .number ≡ 0 → y ≡ verdictOf (each (readSelects s ps bins) (crossHeadsAt s c b n) (q .at)) → y ≡ verdictOf (readTokenSection s ps bins (crossHeadsAt s c b n) at)
   unfolding readTokenSection
   tokens-on y z h = count-on s 1024 at sum (sumOf tokensOwned (crossHeadsAt s c b n)) _ (tokens-counted s c b n m sum e f) q y g z h

@@ -35,8 +35,8 @@ fn cross_bin(t: &[u8], at: usize) -> Verdict
         return sound(end);
     }
     let c = test(some, 3, at + 2, sound(end));
-    let b = test(guarded, 6, at + 1, c);
-    test(kinds, 6, at, b)
+    let b = test(guarded, 15, at + 1, c);
+    test(kinds, 15, at, b)
 }
 
 // n cross bins from start on.
@@ -48,7 +48,7 @@ fn cross_bins(t: &[u8], n: usize, start: usize) -> Verdict
     let mut i = 0;
     while i < n {
         let r = cross_bin(t, at);
-        if r.class != 0 {
+        if r.number != 0 {
             return r;
         }
         at = r.at;
@@ -80,7 +80,7 @@ pub fn cross_bin_section(t: &[u8], c: usize, n: usize, at: usize) -> Verdict
 {
     let sum = owned_bins(t, n, c);
     let r = owned_count(t, 128, sum, at);
-    if r.class != 0 {
+    if r.number != 0 {
         return r;
     }
     cross_bins(t, sum, r.at)

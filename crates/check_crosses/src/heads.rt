@@ -52,10 +52,10 @@ fn cross_end(t: &[u8], at: usize) -> Verdict
     if guarded & reached & few & different {
         return end;
     }
-    let d = test(different, 7, at, end);
+    let d = test(different, 4, at, end);
     let c = test(few, 3, at + 12, d);
-    let b = test(reached, 6, at + 8, c);
-    test(guarded, 6, at + 5, b)
+    let b = test(reached, 15, at + 8, c);
+    test(guarded, 15, at + 5, b)
 }
 
 // The i-th of the four points: one of the table's, or unused.
@@ -67,9 +67,9 @@ fn point_test(t: &[u8], points: usize, at: usize, i: usize, rest: Verdict) -> Ve
     let p = inside(t, place) as usize;
     let n = inside(t, at) as usize;
     if i < n {
-        return test(p < points, 6, place, rest);
+        return test(p < points, 15, place, rest);
     }
-    test(p == 255, 5, place, rest)
+    test(p == 255, 17, place, rest)
 }
 
 fn cross(t: &[u8], points: usize, at: usize) -> Verdict
@@ -85,7 +85,7 @@ fn cross(t: &[u8], points: usize, at: usize) -> Verdict
     let c = point_test(t, points, at, 2, d);
     let b = point_test(t, points, at, 1, c);
     let a = point_test(t, points, at, 0, b);
-    test((2 <= n) & (n <= 4), 6, at, a)
+    test((2 <= n) & (n <= 4), 15, at, a)
 }
 
 // n crosses from start on.
@@ -97,7 +97,7 @@ fn crosses_of(t: &[u8], points: usize, n: usize, start: usize) -> Verdict
     let mut i = 0;
     while i < n {
         let r = cross(t, points, at);
-        if r.class != 0 {
+        if r.number != 0 {
             return r;
         }
         at = r.at;
@@ -112,7 +112,7 @@ pub fn cross_section(t: &[u8], points: usize, at: usize) -> Verdict
     ensures { λ r. ⌜ r ≡ verdictOf (readCrossSection (now (t .entry)) points at) ⌝ }
 {
     let c = section_count(t, 0, 8, at);
-    if c.class != 0 {
+    if c.number != 0 {
         return c;
     }
     let n = read2(t, at) as usize;

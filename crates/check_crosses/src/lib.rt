@@ -24,14 +24,14 @@ pub fn crosses(t: &[u8], points: usize, np: usize, bins: usize, nb: usize, at: u
     ensures { λ r. ⌜ r ≡ verdictOf (readCrosses (now (t .entry)) (pointsAt (now (t .entry)) points np) (rows (binHead (now (t .entry))) 8 bins nb) at) ⌝ }
 {
     let a = cross_section(t, np, at);
-    if a.class != 0 {
+    if a.number != 0 {
         return a;
     }
     let n = read2(t, at) as usize;
     let c = at + 2;
     let ninth = a.at;
     let b = cross_bin_section(t, c, n, ninth);
-    if b.class != 0 {
+    if b.number != 0 {
         return b;
     }
     token_section(

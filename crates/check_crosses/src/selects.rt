@@ -35,12 +35,12 @@ fn select(t: &[u8], points: Section, bins: Section, c: usize, b: usize, at: usiz
 {
     let n = byte(t, b + 2) as usize;
     let r = tokens(t, points, bins, c, n, at);
-    if r.class != 0 {
+    if r.number != 0 {
         return r;
     }
     let end = r.at;
     let one = one_expression(t, n, at);
-    test(one, 7, last_token(end), sound(end))
+    test(one, 4, last_token(end), sound(end))
 }
 
 // The tokens of n cross bins of the cross at c, the first of them at b.
@@ -62,7 +62,7 @@ fn selects(
     let mut i = 0;
     while i < n {
         let r = select(t, points, bins, c, bin, at);
-        if r.class != 0 {
+        if r.number != 0 {
             return r;
         }
         at = r.at;
@@ -93,7 +93,7 @@ fn all_selects(
     while i < n {
         let k = byte(t, cross + 12) as usize;
         let r = selects(t, points, bins, cross, bin, k, at);
-        if r.class != 0 {
+        if r.number != 0 {
             return r;
         }
         at = r.at;
@@ -137,7 +137,7 @@ pub fn token_section(
     let m = owned_bins(t, n, c);
     let sum = owned_tokens(t, m, b);
     let r = owned_count(t, 1024, sum, at);
-    if r.class != 0 {
+    if r.number != 0 {
         return r;
     }
     all_selects(t, points, bins, c, b, n, r.at)

@@ -88,14 +88,14 @@ cover-bin s bins nb p b =
 
 pub verdict-token-rules : (parts : ℕ) (p : Point) (op position b lo hi : ℕ) (names : Bool) (at : ℕ) (f : Verdict)
     → verdictIn (tokenRules parts p op position b lo hi names at) f
-    ≡ unlessOk (leb op 5) 6 at (cond (leb op 2)
-    (unlessOk (ltb position parts) 6 (at + 1) (unlessOk (eqb op 1 || eqb b 0) 5 (at + 2) (verdictIn (valueFields p op lo hi at) (unlessOk (not (eqb op 1) || names) 7 at f))))
-    (unlessOk (eqb position 0) 5 (at + 1) (unlessOk (eqb op 1 || eqb b 0) 5 (at + 2) (verdictIn (valueFields p op lo hi at) (unlessOk (not (eqb op 1) || names) 7 at f)))))
+    ≡ unlessOk (leb op 5) 15 at (cond (leb op 2)
+    (unlessOk (ltb position parts) 15 (at + 1) (unlessOk (eqb op 1 || eqb b 0) 17 (at + 2) (verdictIn (valueFields p op lo hi at) (unlessOk (not (eqb op 1) || names) 4 at f))))
+    (unlessOk (eqb position 0) 17 (at + 1) (unlessOk (eqb op 1 || eqb b 0) 17 (at + 2) (verdictIn (valueFields p op lo hi at) (unlessOk (not (eqb op 1) || names) 4 at f)))))
 unfolding tokenRules verdictIn valueFields
 verdict-token-rules parts p op position b lo hi names at f =
-    ap (unlessOk (leb op 5) 6 at)
+    ap (unlessOk (leb op 5) 15 at)
     (verdict-in-choice (leb op 2) (ltb position parts, field, at + 1) (eqb position 0, unused, at + 1) ((eqb op 1 || eqb b 0, unused, at + 2) ∷ (valueFields p op lo hi at ++ named)) f
-    ∙ ap (λ (x : Verdict). cond (leb op 2) (unlessOk (ltb position parts) 6 (at + 1) (unlessOk (eqb op 1 || eqb b 0) 5 (at + 2) x)) (unlessOk (eqb position 0) 5 (at + 1) (unlessOk (eqb op 1 || eqb b 0) 5 (at + 2) x)))
+    ∙ ap (λ (x : Verdict). cond (leb op 2) (unlessOk (ltb position parts) 15 (at + 1) (unlessOk (eqb op 1 || eqb b 0) 17 (at + 2) x)) (unlessOk (eqb position 0) 17 (at + 1) (unlessOk (eqb op 1 || eqb b 0) 17 (at + 2) x)))
     (verdict-in-append (valueFields p op lo hi at) named f))
   where
     named : List Test
@@ -103,20 +103,20 @@ verdict-token-rules parts p op position b lo hi names at f =
 
 -- where those on op, position and bin pass, the others are left
 pub token-passed : (parts : ℕ) (p : Point) (op position b lo hi : ℕ) (names : Bool) (at : ℕ) (f r : Verdict) (ok : Bool)
-    → r ≡ verdictIn (valueFields p op lo hi at) (unlessOk (not (eqb op 1) || names) 7 at f) → ok ≡ true
+    → r ≡ verdictIn (valueFields p op lo hi at) (unlessOk (not (eqb op 1) || names) 4 at f) → ok ≡ true
     → ok ≡ ((leb op 5 && cond (leb op 2) (ltb position parts) (eqb position 0)) && (eqb op 1 || eqb b 0)) → r ≡ verdictIn (tokenRules parts p op position b lo hi names at) f
 unfolding verdictIn passing
 token-passed parts p op position b lo hi names at f r ok e t h =
     e ∙ go (leb op 2) (sym h ∙ t) ∙ sym (verdict-token-rules parts p op position b lo hi names at f)
   where
     rest : Verdict
-    rest = verdictIn (valueFields p op lo hi at) (unlessOk (not (eqb op 1) || names) 7 at f)
+    rest = verdictIn (valueFields p op lo hi at) (unlessOk (not (eqb op 1) || names) 4 at f)
 
     plain : Bool
     plain = eqb op 1 || eqb b 0
 
     go : (leaf : Bool) → ((leb op 5 && cond leaf (ltb position parts) (eqb position 0)) && plain) ≡ true
-        → rest ≡ unlessOk (leb op 5) 6 at (cond leaf (unlessOk (ltb position parts) 6 (at + 1) (unlessOk plain 5 (at + 2) rest)) (unlessOk (eqb position 0) 5 (at + 1) (unlessOk plain 5 (at + 2) rest)))
+        → rest ≡ unlessOk (leb op 5) 15 at (cond leaf (unlessOk (ltb position parts) 15 (at + 1) (unlessOk plain 17 (at + 2) rest)) (unlessOk (eqb position 0) 17 (at + 1) (unlessOk plain 17 (at + 2) rest)))
     go true e = passed ((leb op 5, field, at) ∷ (ltb position parts, field, at + 1) ∷ (plain, unused, at + 2) ∷ []) rest rest _ refl e refl
     go false e = passed ((leb op 5, field, at) ∷ (eqb position 0, unused, at + 1) ∷ (plain, unused, at + 2) ∷ []) rest rest _ refl e refl
 

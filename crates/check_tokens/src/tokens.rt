@@ -97,8 +97,8 @@ fn value_fields(t: &[u8], point: usize, token: Token, at: usize, rest: Verdict) 
     if no_lo & no_hi {
         return rest;
     }
-    let h = test(no_hi, 5, at + 12, rest);
-    test(no_lo, 5, at + 4, h)
+    let h = test(no_hi, 17, at + 12, rest);
+    test(no_lo, 17, at + 4, h)
 }
 
 // The tests on a token at at, of a cross with so many points; the record of the point at its position is at point.
@@ -113,15 +113,15 @@ fn token_rules(t: &[u8], parts: u8, point: usize, token: Token, names: bool, at:
     let free = position == 0;
     let placed = pick(op <= 2, used, free);
     let plain = (op == 1) | (token.bin == 0);
-    let last = test(!(op == 1) | names, 7, at, sound(at + 20));
+    let last = test(!(op == 1) | names, 4, at, sound(at + 20));
     let values = value_fields(t, point, token, at, last);
     if known & placed & plain {
         return values;
     }
-    let bin = test(plain, 5, at + 2, values);
-    let a = test(used, 6, at + 1, bin);
-    let b = test(free, 5, at + 1, bin);
-    test(known, 6, at, choose(op <= 2, a, b))
+    let bin = test(plain, 17, at + 2, values);
+    let a = test(used, 15, at + 1, bin);
+    let b = test(free, 17, at + 1, bin);
+    test(known, 15, at, choose(op <= 2, a, b))
 }
 
 // The token at at, of the cross at c, in a table with these sections of points and of value bins.
@@ -150,7 +150,7 @@ pub fn tokens(t: &[u8], points: Section, bins: Section, c: usize, n: usize, star
     let mut i = 0;
     while i < n {
         let r = token_fault(t, points, bins, c, at);
-        if r.class != 0 {
+        if r.number != 0 {
             return r;
         }
         at = r.at;

@@ -29,7 +29,7 @@ points-in s points n at {hs} {end} e i h =
     let w = got-record s 4 (transitionTests s points) (transitionHead s) (at + i * 4) (r .row i h) in
     subst (λ (p : ℕ). byte s p < points) (let y : at + i * 4 ≡ at + 4 * i = omega arith in y) (ltb-true _ _ (w .passed .0))
 
-pub points-below : (s : List ℕ) (np n at : ℕ) (a : Verdict) → a ≡ verdictOf (readTransitionSection s np at) → a .class ≡ 0 → n ≡ u16 s at → PointsBelow s 4 (at + 2) n np
+pub points-below : (s : List ℕ) (np n at : ℕ) (a : Verdict) → a ≡ verdictOf (readTransitionSection s np at) → a .number ≡ 0 → n ≡ u16 s at → PointsBelow s 4 (at + 2) n np
 unfolding readTransitionSection
 points-below s np n at a e z en =
     sound-got _ a e z λ hs g. bind-elim (sectionCount s 0 64) (λ n. times n (readTransition s np)) at g λ m next e₁ e₂.
@@ -40,14 +40,14 @@ points-below s np n at a e z en =
 
 -- ---- where a section that is sound ends
 
-pub bins-end : (s : List ℕ) (np n at : ℕ) (r : Verdict) → r ≡ verdictOf (readTransitionSection s np at) → r .class ≡ 0 → n ≡ u16 s at → (r .at ≡ at + 2 + 4 * n) × (r .at ≤ length s)
+pub bins-end : (s : List ℕ) (np n at : ℕ) (r : Verdict) → r ≡ verdictOf (readTransitionSection s np at) → r .number ≡ 0 → n ≡ u16 s at → (r .at ≡ at + 2 + 4 * n) × (r .at ≤ length s)
 bins-end s np n at r e z en = let h = says-sound _ _ _ _ r (transitions-raw s np at) e z in let y = h .1 in let l = h .2 in (y ∙ ap (λ (k : ℕ). at + 2 + 4 * k) (sym en), omega arith)
 
-pub sequences-end : (s : List ℕ) (b n at : ℕ) (r : Verdict) → r ≡ verdictOf (readSequenceSection s (rows (transitionHead s) 4 b n) at) → r .class ≡ 0
+pub sequences-end : (s : List ℕ) (b n at : ℕ) (r : Verdict) → r ≡ verdictOf (readSequenceSection s (rows (transitionHead s) 4 b n) at) → r .number ≡ 0
     → (r .at ≡ at + 2 + u16 s at) × (r .at ≤ length s)
 sequences-end s b n at r e z = let h = says-sound _ _ _ _ r (sequences-raw s b n at) e z in let y = h .1 in let l = h .2 in (y, omega arith)
 
-pub steps-end : (s : List ℕ) (b q n at : ℕ) (r : Verdict) → r ≡ verdictOf (readStepSection s (lengthHeadsAt s b q n) at) → r .class ≡ 0
+pub steps-end : (s : List ℕ) (b q n at : ℕ) (r : Verdict) → r ≡ verdictOf (readStepSection s (lengthHeadsAt s b q n) at) → r .number ≡ 0
     → (r .at ≡ at + 2 + 3 * u16 s at) × (r .at ≤ length s)
 steps-end s b q n at r e z = let h = says-sound _ _ _ _ r (steps-raw s b q n at) e z in let y = h .1 in let l = h .2 in (y, omega arith)
 
@@ -57,11 +57,11 @@ module _ (s : List ℕ) (points np at : ℕ) (a : Verdict) (ea : a ≡ verdictOf
   bins-are : a ≡ verdictOf (readTransitionSection s (length (pointsAt s points np)) at)
   bins-are = ea ∙ ap (λ (k : ℕ). verdictOf (readTransitionSection s k at)) (sym (length-rows (pointRecord s) 11 points np))
 
-  pub stop-bins : (a .class ≡ 0 → ⊥) → a ≡ verdictOf (readTransitionBins s (pointsAt s points np) at)
+  pub stop-bins : (a .number ≡ 0 → ⊥) → a ≡ verdictOf (readTransitionBins s (pointsAt s points np) at)
   unfolding readTransitionBins
   stop-bins z = bind-stop (readTransitionSection s (length (pointsAt s points np))) _ at a bins-are z
 
-  module _ (n : ℕ) (za : a .class ≡ 0) (en : n ≡ u16 s at) where
+  module _ (n : ℕ) (za : a .number ≡ 0) (en : n ≡ u16 s at) where
     heads-say : Says (readTransitionSection s (length (pointsAt s points np)) at) (rows (transitionHead s) 4 (at + 2) n) (at + 2 + 4 * n) (length s)
     heads-say =
         subst (λ (k : ℕ). Says (readTransitionSection s (length (pointsAt s points np)) at) (rows (transitionHead s) 4 (at + 2) k) (at + 2 + 4 * k) (length s)) (sym en)
@@ -73,20 +73,20 @@ module _ (s : List ℕ) (points np at : ℕ) (a : Verdict) (ea : a ≡ verdictOf
     on-bins k y h = says-on (readTransitionSection s (length (pointsAt s points np))) k at _ _ _ a y heads-say bins-are za h
 
     module _ (b : Verdict) (eb : b ≡ verdictOf (readSequenceSection s (rows (transitionHead s) 4 (at + 2) n) (a .at))) where
-      pub stop-sequences : (b .class ≡ 0 → ⊥) → b ≡ verdictOf (readTransitionBins s (pointsAt s points np) at)
+      pub stop-sequences : (b .number ≡ 0 → ⊥) → b ≡ verdictOf (readTransitionBins s (pointsAt s points np) at)
       unfolding readTransitionBins
       stop-sequences z = on-bins _ b (bind-stop (readSequenceSection s (rows (transitionHead s) 4 (at + 2) n)) _ (a .at) b eb z)
 
-      module _ (zb : b .class ≡ 0) where
+      module _ (zb : b .number ≡ 0) where
         module _ (c : Verdict) (ec : c ≡ verdictOf (readStepSection s (lengthHeadsAt s (at + 2) (a .at + 2) n) (b .at))) where
-          pub stop-steps : (c .class ≡ 0 → ⊥) → c ≡ verdictOf (readTransitionBins s (pointsAt s points np) at)
+          pub stop-steps : (c .number ≡ 0 → ⊥) → c ≡ verdictOf (readTransitionBins s (pointsAt s points np) at)
           unfolding readTransitionBins
           stop-steps z =
               on-bins _ c
               (says-on (readSequenceSection s (rows (transitionHead s) 4 (at + 2) n)) _ (a .at) _ _ _ b c (sequences-raw s (at + 2) n (a .at)) eb zb
               (bind-stop (readStepSection s (lengthHeadsAt s (at + 2) (a .at + 2) n)) _ (b .at) c ec z))
 
-          module _ (zc : c .class ≡ 0) where
+          module _ (zc : c .number ≡ 0) where
             pub on-steps : (r : Verdict) → r ≡ verdictOf (readStepRangeSection s (pointsAt s points np) (transitionHeadsAt s (at + 2) (a .at + 2) (b .at + 2) n) (c .at))
                 → r ≡ verdictOf (readTransitionBins s (pointsAt s points np) at)
             unfolding readTransitionBins

@@ -26,11 +26,11 @@ unfolding readSequences
 sequences-flat s os at = each-times (readSequences s) (readSequence s) sequencesOwned (λ o at. sym (bind-done (times (o .owned) (readSequence s)) (withOwned o) at _ refl)) os at
 
 module _ (s : List ℕ) (b n at sum : ℕ) (own : sum ≡ byteSum s 4 (b + 3) n) where
-  pub sequence-stop : (r : Verdict) → r ≡ verdictOf (ownedCount s 64 sum at) → (r .class ≡ 0 → ⊥) → r ≡ verdictOf (readSequenceSection s (rows (transitionHead s) 4 b n) at)
+  pub sequence-stop : (r : Verdict) → r ≡ verdictOf (ownedCount s 64 sum at) → (r .number ≡ 0 → ⊥) → r ≡ verdictOf (readSequenceSection s (rows (transitionHead s) 4 b n) at)
   unfolding readSequenceSection
   sequence-stop r e z = count-stop s 64 at sum _ _ (own ∙ sequence-total s b n) r e z
 
-  pub sequence-on : (q y : Verdict) → q ≡ verdictOf (ownedCount s 64 sum at) → q .class ≡ 0 → y ≡ verdictOf (times sum (readSequence s) (q .at))
+  pub sequence-on : (q y : Verdict) → q ≡ verdictOf (ownedCount s 64 sum at) → q .number ≡ 0 → y ≡ verdictOf (times sum (readSequence s) (q .at))
       → y ≡ verdictOf (readSequenceSection s (rows (transitionHead s) 4 b n) at)
   unfolding readSequenceSection
   sequence-on q y e z h =

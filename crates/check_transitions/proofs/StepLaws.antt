@@ -25,28 +25,28 @@ use Rattle.check_transitions.proofs.SumLaws.{byte-field, byte-field₀,
 -- ---- the steps of one sequence
 
 module _ (s : List ℕ) (n at : ℕ) where
-  pub steps-stop : (r : Verdict) → r ≡ verdictOf (times n (readStep s) at) → (r .class ≡ 0 → ⊥) → r ≡ verdictOf (readSteps s n at)
+  pub steps-stop : (r : Verdict) → r ≡ verdictOf (times n (readStep s) at) → (r .number ≡ 0 → ⊥) → r ≡ verdictOf (readSteps s n at)
   unfolding readSteps
   steps-stop r e z = bind-stop (times n (readStep s)) _ at r e z
 
-  pub steps-on : (q y : Verdict) (leasts mosts : ℕ) → q ≡ verdictOf (times n (readStep s) at) → q .class ≡ 0
+  pub steps-on : (q y : Verdict) (leasts mosts : ℕ) → q ≡ verdictOf (times n (readStep s) at) → q .number ≡ 0
       → leasts ≡ byteSum s 3 (at + 1) n → mosts ≡ byteSum s 3 (at + 2) n
-      → y ≡ unlessOk (leb 2 leasts && leb mosts 32) 7 (q .at - 3) (verdict 0 (q .at)) → y ≡ verdictOf (readSteps s n at)
+      → y ≡ unlessOk (leb 2 leasts && leb mosts 32) 4 (q .at - 3) (verdict 0 (q .at)) → y ≡ verdictOf (readSteps s n at)
   unfolding readSteps readStep
   steps-on q y leasts mosts e z l m h =
       let ss = stepHeadsAt s at n in
       rows-on s 3 (stepTests s) (stepHead s) _ n at q y e z
       (h
-      ∙ ap₂ (λ (l m : ℕ). unlessOk (leb 2 l && leb m 32) 7 (q .at - 3) (verdict 0 (q .at)))
+      ∙ ap₂ (λ (l m : ℕ). unlessOk (leb 2 l && leb m 32) 4 (q .at - 3) (verdict 0 (q .at)))
       (l ∙ byte-field s (λ st. st .least) (stepHead s) 3 1 (λ p. refl) at n) (m ∙ byte-field s (λ st. st .most) (stepHead s) 3 2 (λ p. refl) at n)
       ∙ sym (tested-last ss))
     where
       tested-last : (ss : List StepHead)
           → verdictOf (tested ((sumsOk ss, disagreement, q .at - 3) ∷ []) (got ss (q .at)))
-          ≡ unlessOk (leb 2 (sumOf (λ st. st .least) ss) && leb (sumOf (λ st. st .most) ss) 32) 7 (q .at - 3) (verdict 0 (q .at))
+          ≡ unlessOk (leb 2 (sumOf (λ st. st .least) ss) && leb (sumOf (λ st. st .most) ss) 32) 4 (q .at - 3) (verdict 0 (q .at))
       tested-last ss = unfold verdictOf verdictIn in (verdict-tested ((sumsOk ss, disagreement, q .at - 3) ∷ []) (got ss (q .at)))
 
-  pub steps-in : (r : Verdict) → at ≤ length s → r ≡ verdictOf (readSteps s n at) → r .class ≡ 0 → r .at ≤ length s
+  pub steps-in : (r : Verdict) → at ≤ length s → r ≡ verdictOf (readSteps s n at) → r .number ≡ 0 → r .at ≤ length s
   steps-in r h e z = says-in _ _ _ _ r (steps-says s n at h) e z
 
 pub ruleset sequenceSteps = (needs, record-in, steps-stop, steps-on)
@@ -87,11 +87,11 @@ module _ (s : List ℕ) (b q n at sequences sum : ℕ) (many : sequences ≡ byt
   total-is : sum ≡ sumOf stepsOwned (lengthHeadsAt s b q n)
   total-is = own ∙ ap (byteSum s 1 q) many ∙ step-total s n b q
 
-  pub section-stop : (r : Verdict) → r ≡ verdictOf (ownedCount s 256 sum at) → (r .class ≡ 0 → ⊥) → r ≡ verdictOf (readStepSection s (lengthHeadsAt s b q n) at)
+  pub section-stop : (r : Verdict) → r ≡ verdictOf (ownedCount s 256 sum at) → (r .number ≡ 0 → ⊥) → r ≡ verdictOf (readStepSection s (lengthHeadsAt s b q n) at)
   unfolding readStepSection
   section-stop r e z = count-stop s 256 at sum _ _ total-is r e z
 
-  pub section-on : (c y : Verdict) → c ≡ verdictOf (ownedCount s 256 sum at) → c .class ≡ 0 → y ≡ verdictOf (each (readSteps s) (lengthsAt s q sequences) (c .at))
+  pub section-on : (c y : Verdict) → c ≡ verdictOf (ownedCount s 256 sum at) → c .number ≡ 0 → y ≡ verdictOf (each (readSteps s) (lengthsAt s q sequences) (c .at))
       → y ≡ verdictOf (readStepSection s (lengthHeadsAt s b q n) at)
   unfolding readStepSection
   section-on c y e z h =

@@ -109,18 +109,18 @@ module _ (s : List ℕ) (ps : List Point) where
       first-is : r ≡ verdictOf (readTransitionRanges s ps (withOwned (transitionHead s b) (sequenceHeadsAt s q p (byte s (b + 3)))) at)
       first-is = e ∙ bin-row s ps b q p (byte s (b + 3)) k at (ek ∙ ap (byteSum s 1 q) em)
 
-      pub bins-stop : (r .class ≡ 0 → ⊥) → r ≡ x
+      pub bins-stop : (r .number ≡ 0 → ⊥) → r ≡ x
       unfolding transitionHeadsAt
       bins-stop z = owners-stop (readTransitionRanges s ps) _ at x inv _ _ r (ap (transitionHeadsAt s b q p) (one-left n i h)) first-is z
 
-      pub bins-on : r .class ≡ 0 → x ≡ verdictOf (each (readTransitionRanges s ps) (transitionHeadsAt s (b + 4) (q + m) (p + 3 * k) (n - (i + 1))) (r .at))
+      pub bins-on : r .number ≡ 0 → x ≡ verdictOf (each (readTransitionRanges s ps) (transitionHeadsAt s (b + 4) (q + m) (p + 3 * k) (n - (i + 1))) (r .at))
       unfolding transitionHeadsAt
       bins-on z =
           owners-on (readTransitionRanges s ps) _ at x inv _ _ r (ap (transitionHeadsAt s b q p) (one-left n i h)) first-is z
           ∙ ap₂ (λ (m k : ℕ). verdictOf (each (readTransitionRanges s ps) (transitionHeadsAt s (b + 4) (q + m) (p + 3 * k) (n - (i + 1))) (r .at))) (sym em)
           (steps-are s q (byte s (b + 3)) ∙ sym (ek ∙ ap (byteSum s 1 q) em))
 
-pub ranges-in : (s : List ℕ) (pt : Point) (n at : ℕ) (r : Verdict) → at ≤ length s → r ≡ verdictOf (times n (readRange s pt true) at) → r .class ≡ 0 → r .at ≤ length s
+pub ranges-in : (s : List ℕ) (pt : Point) (n at : ℕ) (r : Verdict) → at ≤ length s → r ≡ verdictOf (times n (readRange s pt true) at) → r .number ≡ 0 → r .at ≤ length s
 unfolding readRange
 ranges-in s pt n at r h e z = times-in s 17 (rangeTests s pt true) (rangeRecord s) n at r h e z
 
@@ -133,11 +133,11 @@ module _ (s : List ℕ) (ps : List Point) (b q p n at sequences steps sum : ℕ)
   total-is : sum ≡ sumOf stepRangesOwned (transitionHeadsAt s b q p n)
   total-is = own ∙ ap (byteSum s 3 p) (more ∙ ap (byteSum s 1 q) many) ∙ range-total s n b q p
 
-  pub section-stop : (r : Verdict) → r ≡ verdictOf (ownedCount s 512 sum at) → (r .class ≡ 0 → ⊥) → r ≡ verdictOf (readStepRangeSection s ps (transitionHeadsAt s b q p n) at)
+  pub section-stop : (r : Verdict) → r ≡ verdictOf (ownedCount s 512 sum at) → (r .number ≡ 0 → ⊥) → r ≡ verdictOf (readStepRangeSection s ps (transitionHeadsAt s b q p n) at)
   unfolding readStepRangeSection
   section-stop r e z = count-stop s 512 at sum _ _ total-is r e z
 
-  pub section-on : (c y : Verdict) → c ≡ verdictOf (ownedCount s 512 sum at) → c .class ≡ 0 → y ≡ verdictOf (each (readTransitionRanges s ps) (transitionHeadsAt s b q p n) (c .at))
+  pub section-on : (c y : Verdict) → c ≡ verdictOf (ownedCount s 512 sum at) → c .number ≡ 0 → y ≡ verdictOf (each (readTransitionRanges s ps) (transitionHeadsAt s b q p n) (c .at))
       → y ≡ verdictOf (readStepRangeSection s ps (transitionHeadsAt s b q p n) at)
   unfolding readStepRangeSection
   section-on c y e z h = count-on s 512 at sum _ _ total-is c y e z h

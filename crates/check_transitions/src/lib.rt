@@ -26,20 +26,20 @@ pub fn transition_bins(t: &[u8], points: usize, np: usize, at: usize) -> Verdict
     ensures { λ r. ⌜ r ≡ verdictOf (readTransitionBins (now (t .entry)) (pointsAt (now (t .entry)) points np) at) ⌝ }
 {
     let bins = transition_section(t, np, at);
-    if bins.class != 0 {
+    if bins.number != 0 {
         return bins;
     }
     let n = read2(t, at) as usize;
     let b = at + 2;
     let fifth = bins.at;
     let sequences = sequence_section(t, b, n, fifth);
-    if sequences.class != 0 {
+    if sequences.number != 0 {
         return sequences;
     }
     let q = fifth + 2;
     let sixth = sequences.at;
     let steps = step_section(t, b, q, n, sixth);
-    if steps.class != 0 {
+    if steps.number != 0 {
         return steps;
     }
     step_range_section(

@@ -34,7 +34,7 @@ fn sequences_of(t: &[u8], n: usize, start: usize) -> Verdict
     let mut i = 0;
     while i < n {
         let r = sequence_fault(t, at);
-        if r.class != 0 {
+        if r.number != 0 {
             return r;
         }
         at = r.at;
@@ -50,7 +50,7 @@ pub fn sequence_section(t: &[u8], b: usize, n: usize, at: usize) -> Verdict
 {
     let sum = sum_bytes(t, 4, b + 3, n);
     let c = owned_count(t, 64, sum, at);
-    if c.class != 0 {
+    if c.number != 0 {
         return c;
     }
     sequences_of(t, sum, c.at)

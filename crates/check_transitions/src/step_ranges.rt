@@ -52,7 +52,7 @@ fn ranges_each(
         let m = byte(t, bin + 3) as usize;
         let k = sum_bytes(t, 1, sequence, m);
         let r = bin_ranges(t, points, bin, step, k, at);
-        if r.class != 0 {
+        if r.number != 0 {
             return r;
         }
         at = r.at;
@@ -82,7 +82,7 @@ pub fn step_range_section(
     let steps = sum_bytes(t, 1, q, sequences);
     let sum = sum_bytes(t, 3, p, steps);
     let c = owned_count(t, 512, sum, at);
-    if c.class != 0 {
+    if c.number != 0 {
         return c;
     }
     ranges_each(t, points, b, q, p, n, c.at)

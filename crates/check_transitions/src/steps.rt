@@ -32,9 +32,9 @@ fn step_fault(t: &[u8], at: usize) -> Verdict
     if some & from & to & ordered {
         return sound(end);
     }
-    let d = test(ordered, 6, at + 2, sound(end));
-    let c = test(to, 6, at + 2, d);
-    let b = test(from, 6, at + 1, c);
+    let d = test(ordered, 15, at + 2, sound(end));
+    let c = test(to, 15, at + 2, d);
+    let b = test(from, 15, at + 1, c);
     test(some, 3, at, b)
 }
 
@@ -47,7 +47,7 @@ fn steps_of(t: &[u8], n: usize, start: usize) -> Verdict
     let mut i = 0;
     while i < n {
         let r = step_fault(t, at);
-        if r.class != 0 {
+        if r.number != 0 {
             return r;
         }
         at = r.at;
@@ -69,14 +69,14 @@ fn sequence_steps(t: &[u8], n: usize, start: usize) -> Verdict
     ensures { λ r. ⌜ r ≡ verdictOf (readSteps (now (t .entry)) n start) ⌝ }
 {
     let r = steps_of(t, n, start);
-    if r.class != 0 {
+    if r.number != 0 {
         return r;
     }
     let end = r.at;
     let leasts = sum_bytes(t, 3, start + 1, n);
     let mosts = sum_bytes(t, 3, start + 2, n);
     let last = step_before(end);
-    test((2 <= leasts) & (mosts <= 32), 7, last, sound(end))
+    test((2 <= leasts) & (mosts <= 32), 4, last, sound(end))
 }
 
 // The steps of the n sequences whose records begin at q, from start on.
@@ -90,7 +90,7 @@ fn steps_each(t: &[u8], q: usize, n: usize, start: usize) -> Verdict
     while i < n {
         let k = byte(t, sequence) as usize;
         let r = sequence_steps(t, k, at);
-        if r.class != 0 {
+        if r.number != 0 {
             return r;
         }
         at = r.at;
@@ -108,7 +108,7 @@ pub fn step_section(t: &[u8], b: usize, q: usize, n: usize, at: usize) -> Verdic
     let sequences = sum_bytes(t, 4, b + 3, n);
     let sum = sum_bytes(t, 1, q, sequences);
     let c = owned_count(t, 256, sum, at);
-    if c.class != 0 {
+    if c.number != 0 {
         return c;
     }
     steps_each(t, q, sequences, c.at)

@@ -33,9 +33,9 @@ fn transition_fault(t: &[u8], points: usize, at: usize) -> Verdict
         return sound(end);
     }
     let d = test(some, 3, at + 3, sound(end));
-    let c = test(guarded, 6, at + 2, d);
-    let b = test(kinds, 6, at + 1, c);
-    test(known, 6, at, b)
+    let c = test(guarded, 15, at + 2, d);
+    let b = test(kinds, 15, at + 1, c);
+    test(known, 15, at, b)
 }
 
 // n transition bins from start on.
@@ -47,7 +47,7 @@ fn transitions_of(t: &[u8], points: usize, n: usize, start: usize) -> Verdict
     let mut i = 0;
     while i < n {
         let r = transition_fault(t, points, at);
-        if r.class != 0 {
+        if r.number != 0 {
             return r;
         }
         at = r.at;
@@ -62,7 +62,7 @@ pub fn transition_section(t: &[u8], points: usize, at: usize) -> Verdict
     ensures { λ r. ⌜ r ≡ verdictOf (readTransitionSection (now (t .entry)) points at) ⌝ }
 {
     let c = section_count(t, 0, 64, at);
-    if c.class != 0 {
+    if c.number != 0 {
         return c;
     }
     let n = read2(t, at) as usize;

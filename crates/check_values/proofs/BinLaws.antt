@@ -15,14 +15,14 @@ use Rattle.model.specs.Table.{isDefault}
 use Rattle.model.specs.Format.{Read, got, andThen, byte, BinHead, binHead, binTests, defaultsWith, firstDefault, readBinHeads}
 use Rattle.words.specs.Verdicts.{verdict, verdictOf}
 use Rattle.words.specs.declared.verdicts.Verdict.{Verdict}
-use Rattle.words.proofs.Laws.{verdict-stop, verdict-done, record-got, sound-record, class-of}
+use Rattle.words.proofs.Laws.{verdict-stop, verdict-done, record-got, sound-record, number-of}
 use Rattle.model.proofs.Booleans.{false-true}
 use Rattle.model.proofs.Fields.{default-kind}
 use Rattle.model.proofs.Lists.{none-left, one-left}
 use Rattle.check_values.specs.Places.{defaultsUpTo, fieldsAt, readBin, isDefaultOf}
 use Rattle.check_values.specs.declared.bins.Bin.{Bin}
 
-pub heads-step : (s : List ℕ) (points base i n : ℕ) → verdictOf (readBin s points base i (base + 8 * i)) .class ≡ 0
+pub heads-step : (s : List ℕ) (points base i n : ℕ) → verdictOf (readBin s points base i (base + 8 * i)) .number ≡ 0
     → readBinHeads s points (suc n) (defaultsUpTo s base i) (base + 8 * i)
     ≡ andThen (readBinHeads s points n (defaultsUpTo s base (i + 1)) (base + 8 * (i + 1))) (λ hs end. got (binHead s (base + 8 * i) ∷ hs) end)
 unfolding readBinHeads readBin defaultsUpTo
@@ -45,20 +45,20 @@ module _ (s : List ℕ) (points base : ℕ) where
     unfolding readBinHeads verdictOf
     heads-done r l h e = e ∙ ap (verdict 0) (let y : base + 8 * m ≡ base + 8 * i = omega arith in y) ∙ sym (rw (none-left m i h) at inv)
 
-    pub heads-stop : (r : Verdict) → i < m → r ≡ verdictOf (readBin s points base i (base + 8 * i)) → (r .class ≡ 0 → ⊥) → r ≡ x
+    pub heads-stop : (r : Verdict) → i < m → r ≡ verdictOf (readBin s points base i (base + 8 * i)) → (r .number ≡ 0 → ⊥) → r ≡ x
     unfolding readBinHeads readBin
     heads-stop r h e z =
         verdict-stop (readBin s points base i (base + 8 * i)) (λ h next. andThen (readBinHeads s points (m - (i + 1)) (defaultsWith h (defaultsUpTo s base i)) next) λ hs end. got (h ∷ hs) end) r e z
         ∙ sym (rw (one-left m i h) at inv)
 
-    pub heads-on : (r : Verdict) → i < m → r ≡ verdictOf (readBin s points base i (base + 8 * i)) → r .class ≡ 0
+    pub heads-on : (r : Verdict) → i < m → r ≡ verdictOf (readBin s points base i (base + 8 * i)) → r .number ≡ 0
         → x ≡ verdictOf (readBinHeads s points (m - (i + 1)) (defaultsUpTo s base (i + 1)) (base + 8 * (i + 1)))
     heads-on r h e z =
         (rw (one-left m i h) at inv)
-        ∙ ap verdictOf (heads-step s points base i (m - (i + 1)) (class-of (readBin s points base i (base + 8 * i)) r e z))
+        ∙ ap verdictOf (heads-step s points base i (m - (i + 1)) (number-of (readBin s points base i (base + 8 * i)) r e z))
         ∙ verdict-done (readBinHeads s points (m - (i + 1)) (defaultsUpTo s base (i + 1)) (base + 8 * (i + 1))) (λ hs. binHead s (base + 8 * i) ∷ hs)
 
-  pub bin-in : (i : ℕ) (r : Verdict) → r ≡ verdictOf (readBin s points base i (base + 8 * i)) → r .class ≡ 0 → base + 8 * (i + 1) ≤ length s
+  pub bin-in : (i : ℕ) (r : Verdict) → r ≡ verdictOf (readBin s points base i (base + 8 * i)) → r .number ≡ 0 → base + 8 * (i + 1) ≤ length s
   unfolding readBin
   bin-in i r e z = omega (arith, sound-record s 8 (binTests s points (defaultsUpTo s base i)) (binHead s) (base + 8 * i) r e z .0)
 

@@ -51,7 +51,7 @@ module _ (s : List ℕ) (points np bins n : ℕ) (wide : AllWide s points np) (k
   pub typed-at : points + 11 * np ≤ length s → Typed s points np bin
   typed-at l = let k : byte s bin < np = known-at in record { known = k; place = omega arith; wide = wide (byte s bin) k }
 
-  pub ranges-in : (at : ℕ) (r : Verdict) → at ≤ length s → r ≡ verdictOf (readBinRanges s (pointsAt s points np) (binHead s bin) at) → r .class ≡ 0 → r .at ≤ length s
+  pub ranges-in : (at : ℕ) (r : Verdict) → at ≤ length s → r ≡ verdictOf (readBinRanges s (pointsAt s points np) (binHead s bin) at) → r .number ≡ 0 → r .at ≤ length s
   unfolding readRange
   ranges-in at r l q z =
       times-in s 17 (rangeTests s (pointRecord s (points + 11 * byte s bin)) (eqb (byte s (bin + 1)) 0 && eqb (byte s (bin + 2)) 0)) (rangeRecord s) (u16 s (bin + 6)) at r l

@@ -105,15 +105,15 @@ fn bin_rules(points: usize, bin: Bin, first: bool, at: usize) -> Verdict
     if known & kinds & forms & single & numbered & guarded & owns & first {
         return end;
     }
-    let r9 = test(first, 7, at, end);
+    let r9 = test(first, 4, at, end);
     let r8 = test(owns, 3, at + 6, r9);
-    let r7 = test(guarded, 6, at + 5, r8);
-    let r6 = test(dealt | none, 5, at + 3, r7);
-    let r5 = test(!dealt | some, 6, at + 3, r6);
-    let r4 = test(single, 6, at + 2, r5);
-    let r3 = test(forms, 6, at + 2, r4);
-    let r2 = test(kinds, 6, at + 1, r3);
-    test(known, 6, at, r2)
+    let r7 = test(guarded, 15, at + 5, r8);
+    let r6 = test(dealt | none, 17, at + 3, r7);
+    let r5 = test(!dealt | some, 15, at + 3, r6);
+    let r4 = test(single, 15, at + 2, r5);
+    let r3 = test(forms, 15, at + 2, r4);
+    let r2 = test(kinds, 15, at + 1, r3);
+    test(known, 15, at, r2)
 }
 
 // Bin i of those from base on.
@@ -146,7 +146,7 @@ fn bins_fault(t: &[u8], points: usize, n: usize, base: usize) -> Verdict
     let mut i = 0;
     while i < n {
         let r = bin_fault(t, points, base, i);
-        if r.class != 0 {
+        if r.number != 0 {
             return r;
         }
         i += 1;
@@ -160,7 +160,7 @@ pub fn bin_section(t: &[u8], points: usize, at: usize) -> Verdict
     ensures { λ r. ⌜ r ≡ verdictOf (readBinSection (now (t .entry)) points at) ⌝ }
 {
     let c = section_count(t, 0, 512, at);
-    if c.class != 0 {
+    if c.number != 0 {
         return c;
     }
     let n = read2(t, at) as usize;

@@ -35,11 +35,11 @@ fn point_fault(t: &[u8], at: usize) -> Verdict
     if wide & signed & guarded & reached & automatic {
         return sound(end);
     }
-    let e = test(automatic, 6, at + 9, sound(end));
-    let d = test(reached, 6, at + 5, e);
-    let c = test(guarded, 6, at + 2, d);
-    let b = test(signed, 6, at + 1, c);
-    test(wide, 6, at, b)
+    let e = test(automatic, 15, at + 9, sound(end));
+    let d = test(reached, 15, at + 5, e);
+    let c = test(guarded, 15, at + 2, d);
+    let b = test(signed, 15, at + 1, c);
+    test(wide, 15, at, b)
 }
 
 // n points from start on.
@@ -51,7 +51,7 @@ fn points_fault(t: &[u8], n: usize, start: usize) -> Verdict
     let mut i = 0;
     while i < n {
         let r = point_fault(t, at);
-        if r.class != 0 {
+        if r.number != 0 {
             return r;
         }
         at = r.at;
@@ -66,7 +66,7 @@ pub fn point_section(t: &[u8], at: usize) -> Verdict
     ensures { λ r. ⌜ r ≡ verdictOf (readPointSection (now (t .entry)) at) ⌝ }
 {
     let c = section_count(t, 1, 16, at);
-    if c.class != 0 {
+    if c.number != 0 {
         return c;
     }
     let n = read2(t, at) as usize;

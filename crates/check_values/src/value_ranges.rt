@@ -60,7 +60,7 @@ fn ranges_fault(t: &[u8], points: usize, np: usize, bins: usize, n: usize, start
     let mut i = 0;
     while i < n {
         let r = bin_ranges(t, points, np, bin, at);
-        if r.class != 0 {
+        if r.number != 0 {
             return r;
         }
         at = r.at;
@@ -85,7 +85,7 @@ pub fn range_section(
 {
     let sum = owned_ranges(t, n, bins);
     let c = owned_count(t, 1024, sum, at);
-    if c.class != 0 {
+    if c.number != 0 {
         return c;
     }
     ranges_fault(t, points, np, bins, n, c.at)

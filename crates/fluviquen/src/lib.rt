@@ -7,16 +7,24 @@ ghost use Rattle.table.specs.Check.{sectionStart};
 ghost use Rattle.turns.specs.Batch.{batch};
 ghost use Rattle.fluviquen.specs.Answers.{countIn, presentIn, percentIn, millionthsIn};
 
-// The table's refusal number; the words of a register and of a report, 0 and 0 if it is refused.
+// The table's refusal number; the words of a register and of a report, 0 and 0 if it is refused; the byte at fault, 0 if it is accepted or
+// refused with 1.
 #[no_mangle]
-pub extern "C" fn fluviquen_measure(table: &[u8], words: &mut u32, illegal_places: &mut u32) -> u32
+pub extern "C" fn fluviquen_measure(
+    table: &[u8],
+    words: &mut u32,
+    illegal_places: &mut u32,
+    place: &mut usize,
+) -> u32
     ensures { λ r. ⌜ r ≡ Model.measure (now (table .entry)) .number ⌝ }
     ensures { λ _. ⌜ now (words .exit) ≡ Model.measure (now (table .entry)) .words ⌝ }
     ensures { λ _. ⌜ now («illegal_places» .exit) ≡ Model.measure (now (table .entry)) .illegals ⌝ }
+    ensures { λ _. ⌜ now (place .exit) ≡ Model.measure (now (table .entry)) .place ⌝ }
 {
     let m = table::measure(table);
     *words = m.words;
     *illegal_places = m.illegal_places;
+    *place = m.place;
     m.number
 }
 

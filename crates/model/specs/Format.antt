@@ -20,24 +20,24 @@ pub data FaultClass : Type 0 where
   tooLong cut : FaultClass
   -- a section's count or an owned count outside its limits
   count : FaultClass
+  -- any field outside its allowed values that is in no other class, an ignore bin's guard too
+  field : FaultClass
   -- a, b, lo or hi outside the point's type or out of order, or a pattern outside its mask
   value : FaultClass
   -- an unused field without its unused value
   unused : FaultClass
-  -- any other field outside its allowed values
-  field : FaultClass
   -- with what came before it
   disagreement : FaultClass
   leftover limits : FaultClass
 
--- document 01's refusal numbers
+-- the refusal numbers: each class has its own
 abbrev pub numberOf : FaultClass → ℕ
 numberOf tooLong = 1
 numberOf cut = 2
 numberOf count = 3
-numberOf value = 3
-numberOf unused = 3
-numberOf field = 3
+numberOf field = 15
+numberOf value = 16
+numberOf unused = 17
 numberOf disagreement = 4
 numberOf leftover = 5
 numberOf limits = 6

@@ -16,10 +16,10 @@ use Rattle.model.specs.Counters.{listed, excludedValue, listedValue, dis
 use Rattle.model.specs.Ranges.{rangeCount, patternFrom, nextIn, ascending, coverRanges, rangesOf, excludedRanges, holdsIn, candidates, meetsIn, hasValueIn}
 use Rattle.model.specs.Sampling.{guardTrue, reading, blockSizes, nextSteps, matchedLengths, excludedMatch, coverHit, productHit, hits}
 use Rattle.model.specs.Figures.{inTotal, itemOf, total, covered, figureOf, groupOf, itemFigure, groupFigure}
-use Rattle.model.specs.Format.{FaultClass, tooLong, cut, value, unused, field, disagreement, leftover, limits, Outcome, rejected, tested, _>>=_, times, each, readRecord, readPoint, readBinHeads, readRange, readBinRanges, readTransition, readSequence, readSequences, readStep, readSteps, readBinSteps, readStepRanges, readTransitionRanges, allDifferent, readCross, readCrossBin, readCrossBins, readToken, expressions, readSelect, readSelects, u16, u32, u64, valueTests, patternTests, rangeRules, binRules, coverBinOf, tokenRules, readPointSection, readBinSection, readRangeSection, readTransitionSection, readSequenceSection, readStepSection, readStepRangeSection, readCrossSection, readCrossBinSection, readTokenSection, readTransitionBins, readCrosses, readTable, decode, sectionFrom}
+use Rattle.model.specs.Format.{tested, _>>=_, times, each, readRecord, readPoint, readBinHeads, readRange, readBinRanges, readTransition, readSequence, readSequences, readStep, readSteps, readBinSteps, readStepRanges, readTransitionRanges, allDifferent, readCross, readCrossBin, readCrossBins, readToken, expressions, readSelect, readSelects, u16, u32, u64, valueTests, patternTests, rangeRules, binRules, coverBinOf, tokenRules, readPointSection, readBinSection, readRangeSection, readTransitionSection, readSequenceSection, readStepSection, readStepRangeSection, readCrossSection, readCrossBinSection, readTokenSection, readTransitionBins, readCrosses, readTable, decode, sectionFrom}
 use Rattle.model.specs.Reference.{registerAfter}
 use Rattle.model.specs.Build.{le, empty, pointOf, signedOf, guardedOf, binOf, spanOf, below0, transitionOf, stepOf, crossOf, crossBinOf, tokenOf}
-use Rattle.model.specs.Register.{Call, reset, start, stop, sample, askCounter, askItem, askGroup, percent, millionths, sequences, wordsNeeded, illegalTotal, countsOf, unknownsOf, runsOf, nextRuns, binLengths, allLengths, sampledWords, reportWords, sampledReport, consistent, inWidths, callTests, restarted, accept, onTable, call, measure, section}
+use Rattle.model.specs.Register.{Call, reset, start, stop, sample, askCounter, askItem, askGroup, percent, millionths, sequences, wordsNeeded, illegalTotal, countsOf, unknownsOf, runsOf, nextRuns, binLengths, allLengths, sampledWords, reportWords, sampledReport, consistent, inWidths, callTests, restarted, accept, onTable, call, Measure, measure, section}
 
 -- ---- tables
 
@@ -134,13 +134,13 @@ reported v = sample (0 ∷ 0 ∷ 0 ∷ 0 ∷ v ∷ 0 ∷ []) (7 ∷ 7 ∷ [])
 pair : ℕ → ℕ → Call
 pair v w = sample (0 ∷ 0 ∷ 0 ∷ 0 ∷ v ∷ 0 ∷ w ∷ 0 ∷ []) []
 
-fault : FaultClass → ℕ → Outcome
-fault c at = rejected (record { class = c; at = at })
+refusal : ℕ → ℕ → Measure
+refusal number place = record { number = number; words = 0; illegals = 0; place = place }
 
 -- ---- what comes of them
 
 record Worked : Type 0 where
-  wholeTable : measure thirtyOne ≡ record { number = 0; words = 5; illegals = 0 }
+  wholeTable : measure thirtyOne ≡ record { number = 0; words = 5; illegals = 0; place = 0 }
   wholeRegister : after thirtyOne (7 ∷ 7 ∷ 7 ∷ 7 ∷ 7 ∷ 7 ∷ []) (reset ∷ read 1 0 ∷ read 1 0 ∷ read 0 1 ∷ []) ≡ 1 ∷ 3 ∷ 0 ∷ 2 ∷ 1 ∷ 7 ∷ []
   -- 25 × 2: 50 percent
   wholeFigure : call thirtyOne (1 ∷ 3 ∷ 0 ∷ 2 ∷ 1 ∷ []) (askItem 0) .response .answer ≡ percent (some (fin false 25 (pos 1)))
@@ -168,7 +168,6 @@ record Worked : Type 0 where
   guardIsTrue : after guardedBin (replicate 5 0) (reset ∷ guarded 32 0 1 ∷ []) ≡ 1 ∷ 1 ∷ 1 ∷ 1 ∷ 0 ∷ []
   guardIsUnknown : after guardedBin (replicate 5 0) (reset ∷ guarded 32 32 1 ∷ []) ≡ 1 ∷ 1 ∷ 0 ∷ 1 ∷ 0 ∷ []
   most32 : measure (stepsUpTo 16) .number ≡ 0
-  most33 : measure (stepsUpTo 17) .number ≡ 4
   lastSample : call thirtyOne (1 ∷ 4_294_967_294 ∷ 0 ∷ 0 ∷ 0 ∷ []) (read 0 0) .words ≡ 1 ∷ 4_294_967_295 ∷ 1 ∷ 0 ∷ 0 ∷ []
   noMoreSamples : call thirtyOne (1 ∷ 4_294_967_295 ∷ 0 ∷ 0 ∷ 0 ∷ []) (read 0 0) .response .number ≡ 9
   refusedKeeps : call thirtyOne (1 ∷ 4_294_967_295 ∷ 3 ∷ 2 ∷ 1 ∷ []) (read 0 0) .words ≡ 1 ∷ 4_294_967_295 ∷ 3 ∷ 2 ∷ 1 ∷ []
@@ -181,25 +180,28 @@ record Worked : Type 0 where
   sectionOne : section thirtyOne 1 ≡ point 1 1 64
   sectionNone : section thirtyOne 11 ≡ []
   -- faults and their places
-  tooLongFault : decode (replicate 65_537 0) ≡ fault tooLong 0
-  noBytes : decode [] ≡ fault cut 0
-  cutRecord : decode (le 2 1 ++ 1 ∷ 0 ∷ []) ≡ fault cut 2
-  noPoints : decode (le 2 0 ++ empty 9) ≡ fault FaultClass.count 0
-  badWidth : decode (le 2 1 ++ point 33 1 64 ++ empty 9) ≡ fault field 2
-  tooWide : decode (oneSpan 0 8) ≡ fault value 34
-  backwards : decode (oneSpan 3 2) ≡ fault value 34
-  unusedNumber : decode (le 2 1 ++ point 1 1 64 ++ le 2 1 ++ binOf 0 3 0 1 0 ++ empty 8) ≡ fault unused 18
-  secondDefault : decode twoDefaults ≡ fault disagreement 23
-  sumsOver : decode (stepsUpTo 17) ≡ fault disagreement 31
-  after10 : decode (thirtyOne ++ 0 ∷ []) ≡ fault leftover 31
-  overLimits : decode manyProducts ≡ fault limits 55
+  tooLongTable : measure (replicate 65_537 0) ≡ refusal 1 0
+  noBytes : measure [] ≡ refusal 2 0
+  cutRecord : measure (le 2 1 ++ 1 ∷ 0 ∷ []) ≡ refusal 2 2
+  noPoints : measure (le 2 0 ++ empty 9) ≡ refusal 3 0
+  noRanges : measure (le 2 1 ++ point 3 1 64 ++ le 2 1 ++ bin 0 0 0 ++ empty 8) ≡ refusal 3 21
+  badWidth : measure (le 2 1 ++ point 33 1 64 ++ empty 9) ≡ refusal 15 2
+  ignoreGuard : measure (le 2 1 ++ point 3 1 64 ++ le 2 1 ++ guardedOf 5 0 1 0 0 1 ++ le 2 1 ++ spanOf 1 1 ++ empty 7) ≡ refusal 15 20
+  firstTooWide : measure (oneSpan 8 8) ≡ refusal 16 26
+  tooWide : measure (oneSpan 0 8) ≡ refusal 16 34
+  backwards : measure (oneSpan 3 2) ≡ refusal 16 34
+  unusedNumber : measure (le 2 1 ++ point 1 1 64 ++ le 2 1 ++ binOf 0 3 0 1 0 ++ empty 8) ≡ refusal 17 18
+  secondDefault : measure twoDefaults ≡ refusal 4 23
+  sumsOver : measure (stepsUpTo 17) ≡ refusal 4 31
+  after10 : measure (thirtyOne ++ 0 ∷ []) ≡ refusal 5 31
+  overLimits : measure manyProducts ≡ refusal 6 55
   -- 32 bits, by `Ranges`
   wideSpan : rangeCount (record { width = 32; signed = false; guard = none; weight = 1; atLeast = 1; autoMax = 64 }) perValue (span bias (bias + 0xFFFF_FFFF) ∷ []) ≡ 257
   oneLeft : hasValueIn (widePattern 0xAAAA_AAA9) (listed 0 0) ≡ true
   noneLeft : hasValueIn (widePattern 0xAAAA_AAAA) (listed 0 0) ≡ false
 
 worked : Worked
-unfolding le empty pointOf signedOf guardedOf binOf spanOf below0 transitionOf stepOf crossOf crossBinOf tokenOf point bin thirtyOne twoWeights crossed stepsUpTo manyProducts twoDefaults dealtFirst signedBins illegalBin defaultBin perValueBins guardedBin oneSpan widePattern after registerAfter read guarded reported pair fault upFrom any all keep count sumOf concatOf oneOf pairUp orAll bitsFrom firstFailed values inRanges distinctValues listedValues portion inBin excludedValue listedValue distributed holds meets hasValue hasAuto valueCounters transitionCounters pointCounters coverBins tuples crossParts products productOf crossBinCounters crossCounters counters selects withinLimits patternFrom nextIn ascending coverRanges rangesOf excludedRanges holdsIn candidates meetsIn hasValueIn guardTrue reading blockSizes nextSteps matchedLengths excludedMatch coverHit productHit hits inTotal itemOf total covered figureOf groupOf itemFigure groupFigure tested _>>=_ times each readRecord readPoint readBinHeads readRange readBinRanges readTransition readSequence readSequences readStep readSteps readBinSteps readStepRanges readTransitionRanges allDifferent readCross readCrossBin readCrossBins readToken expressions readSelect readSelects u16 u32 u64 valueTests patternTests rangeRules binRules coverBinOf tokenRules readPointSection readBinSection readRangeSection readTransitionSection readSequenceSection readStepSection readStepRangeSection readCrossSection readCrossBinSection readTokenSection readTransitionBins readCrosses readTable decode sectionFrom sequences wordsNeeded illegalTotal countsOf unknownsOf runsOf nextRuns binLengths allLengths sampledWords reportWords sampledReport consistent inWidths callTests restarted accept onTable call measure section round size spread climb units odd trailingZeros
+unfolding le empty pointOf signedOf guardedOf binOf spanOf below0 transitionOf stepOf crossOf crossBinOf tokenOf point bin thirtyOne twoWeights crossed stepsUpTo manyProducts twoDefaults dealtFirst signedBins illegalBin defaultBin perValueBins guardedBin oneSpan widePattern after registerAfter read guarded reported pair refusal upFrom any all keep count sumOf concatOf oneOf pairUp orAll bitsFrom firstFailed values inRanges distinctValues listedValues portion inBin excludedValue listedValue distributed holds meets hasValue hasAuto valueCounters transitionCounters pointCounters coverBins tuples crossParts products productOf crossBinCounters crossCounters counters selects withinLimits patternFrom nextIn ascending coverRanges rangesOf excludedRanges holdsIn candidates meetsIn hasValueIn guardTrue reading blockSizes nextSteps matchedLengths excludedMatch coverHit productHit hits inTotal itemOf total covered figureOf groupOf itemFigure groupFigure tested _>>=_ times each readRecord readPoint readBinHeads readRange readBinRanges readTransition readSequence readSequences readStep readSteps readBinSteps readStepRanges readTransitionRanges allDifferent readCross readCrossBin readCrossBins readToken expressions readSelect readSelects u16 u32 u64 valueTests patternTests rangeRules binRules coverBinOf tokenRules readPointSection readBinSection readRangeSection readTransitionSection readSequenceSection readStepSection readStepRangeSection readCrossSection readCrossBinSection readTokenSection readTransitionBins readCrosses readTable decode sectionFrom sequences wordsNeeded illegalTotal countsOf unknownsOf runsOf nextRuns binLengths allLengths sampledWords reportWords sampledReport consistent inWidths callTests restarted accept onTable call measure section round size spread climb units odd trailingZeros
 worked = record {
   wholeTable = refl;
   wholeRegister = refl;
@@ -222,7 +224,6 @@ worked = record {
   guardIsTrue = refl;
   guardIsUnknown = refl;
   most32 = refl;
-  most33 = refl;
   lastSample = refl;
   noMoreSamples = refl;
   refusedKeeps = refl;
@@ -234,11 +235,14 @@ worked = record {
   stoppedFirst = refl;
   sectionOne = refl;
   sectionNone = refl;
-  tooLongFault = refl;
+  tooLongTable = refl;
   noBytes = refl;
   cutRecord = refl;
   noPoints = refl;
+  noRanges = refl;
   badWidth = refl;
+  ignoreGuard = refl;
+  firstTooWide = refl;
   tooWide = refl;
   backwards = refl;
   unusedNumber = refl;

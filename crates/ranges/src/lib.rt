@@ -108,9 +108,9 @@ pub fn value_tests(width: u8, signed: bool, a: u64, b: u64, at: usize, rest: Ver
     if all_pass(e) {
         return rest;
     }
-    let r3 = test(e.ordered, 4, at + 8, rest);
-    let r2 = test(e.last, 4, at + 8, r3);
-    test(e.first, 4, at, r2)
+    let r3 = test(e.ordered, 16, at + 8, rest);
+    let r2 = test(e.last, 16, at + 8, r3);
+    test(e.first, 16, at, r2)
 }
 
 fn pattern_tests(width: u8, signed: bool, a: u64, b: u64, at: usize, rest: Verdict) -> Verdict
@@ -124,9 +124,9 @@ fn pattern_tests(width: u8, signed: bool, a: u64, b: u64, at: usize, rest: Verdi
     if bits & mask & masked {
         return rest;
     }
-    let r3 = test(masked, 4, at + 8, rest);
-    let r2 = test(mask, 4, at + 8, r3);
-    test(bits, 4, at, r2)
+    let r3 = test(masked, 16, at + 8, rest);
+    let r2 = test(mask, 16, at + 8, r3);
+    test(bits, 16, at, r2)
 }
 
 fn range_rules(
@@ -146,7 +146,7 @@ fn range_rules(
         return value_tests(width, signed, a, b, at + 1, end);
     }
     let p = pattern_tests(width, signed, a, b, at + 1, end);
-    test((kind == 1) & patterns & !signed, 6, at, p)
+    test((kind == 1) & patterns & !signed, 15, at, p)
 }
 
 // The range at at, of a point of that type.
@@ -222,7 +222,7 @@ fn typed_ranges(
     let mut i = 0;
     while i < n {
         let r = range_fault(t, width, signed, patterns, at);
-        if r.class != 0 {
+        if r.number != 0 {
             return r;
         }
         at = r.at;

@@ -10,23 +10,13 @@ use lib.ListN.{length}
 use borrow.Author.Tests.{le-leb, lt-leb}
 use Rattle.model.specs.Lists.{firstFailed}
 use Rattle.model.specs.Table.{Table}
-use Rattle.model.specs.Format.{FaultClass, tooLong, cut, count, value, unused, field, disagreement, leftover, limits, numberOf, Outcome, rejected, decoded, decode, isDecoded, accepted, tableFrom, tableOf}
+use Rattle.model.specs.Format.{Outcome, rejected, decoded, decode, isDecoded, accepted, tableFrom, tableOf}
 use Rattle.model.specs.Register.{wordsNeeded, Call, reset, start, stop, askCounter, askUnknown, registerTests, callTests, accept, refuse, perform, onTable, onOutcome, call}
+use Rattle.model.proofs.Sections.{some-number}
 use Rattle.table.specs.declared.answer.Facts.{Facts}
 use Rattle.table.specs.Check.{factsFrom, factsOf}
 use Rattle.refusals.specs.Refusals.{Describes, wordsOf, RegisterRefusal, PartRefusal, refusalFrom, refusalIn, CallRefusal}
 use Rattle.refusals.proofs.RefusalLaws.{words-by}
-
-some-number : (c : FaultClass) → 0 ≡ numberOf c → ⊥
-some-number tooLong e = omega arith
-some-number cut e = omega arith
-some-number count e = omega arith
-some-number value e = omega arith
-some-number unused e = omega arith
-some-number field e = omega arith
-some-number disagreement e = omega arith
-some-number leftover e = omega arith
-some-number limits e = omega arith
 
 -- ---- the call's refusal, from the table's
 
@@ -60,7 +50,7 @@ module _ (f : Facts) (w : List ℕ) (c : Call) where
   }
     where
       go : (o : Outcome) → f ≡ factsFrom o → r ≡ refusalFrom o w c
-      go (rejected x) e = absurd (some-number (x .class) (sym z ∙ ap (λ (x : Facts). x .number) e))
+      go (rejected x) e = absurd (some-number (x .class) (sym (ap (λ (x : Facts). x .number) e) ∙ z))
       go (decoded t) e = h t (facts-describe f t e)
 
 module _ (f : Facts) (w : List ℕ) (z : f .number ≡ 0) where
@@ -122,7 +112,7 @@ module _ (s : List ℕ) (f : Facts) (told : f ≡ factsOf s) (w : List ℕ) (c :
   call-accepted z = go (decode s) (sym z ∙ known .exact s told) told
     where
       go : (o : Outcome) → 0 ≡ refusalFrom o w c → f ≡ factsFrom o → (onOutcome o w c ≡ accept (tableFrom o) w c) × Describes f (tableFrom o)
-      go (rejected x) e d = absurd (some-number (x .class) e)
+      go (rejected x) e d = absurd (some-number (x .class) (sym e))
       go (decoded t) e d = (ap (λ (n : ℕ). perform n t w c) (sym e), facts-describe f t d)
 
 -- ---- the same for a call whose tests were made for this table
@@ -137,7 +127,7 @@ module _ (s : List ℕ) (f : Facts) (told : f ≡ factsOf s) where
     table-known = go (decode s) told
       where
         go : (o : Outcome) → f ≡ factsFrom o → (o ≡ decoded (tableFrom o)) × Describes f (tableFrom o)
-        go (rejected x) e = absurd (some-number (x .class) (sym z ∙ ap (λ (x : Facts). x .number) e))
+        go (rejected x) e = absurd (some-number (x .class) (sym (ap (λ (x : Facts). x .number) e) ∙ z))
         go (decoded t) e = (refl, facts-describe f t e)
 
     module _ (w : List ℕ) (c : Call) (r : ℕ) (e : r ≡ firstFailed (callTests (tableOf s) w c)) where

@@ -15,7 +15,7 @@ use streams::help::say_usage;
 use streams::out::flush;
 use streams::out::say;
 use streams::text::end_line;
-use streams::text::say_refusal;
+use streams::text::say_fault;
 use table::answer::Facts;
 use table::facts;
 ghost use mathlib.Core.Path.{_≡_};
@@ -61,9 +61,9 @@ fn with_table(out: &mut [u8], table: &[u8], f: Facts, path: &[u8])
     libc::close(fd);
 }
 
-fn refuse_table(out: &mut [u8], number: u32) {
+fn refuse_table(out: &mut [u8], number: u32, place: usize) {
     say(out, b"no report: table refused: ");
-    say_refusal(out, number);
+    say_fault(out, number, place);
     end_line(out);
 }
 
@@ -72,7 +72,7 @@ fn with_bytes(out: &mut [u8], table: &[u8], path: &[u8]) {
     let f = facts(table);
     let number = f.number;
     if number != 0 {
-        refuse_table(out, number);
+        refuse_table(out, number, f.place);
         return;
     }
     with_table(out, table, f, path);
@@ -135,7 +135,7 @@ fn run(out: &mut [u8]) {
         return;
     }
     if first_is(b"--version") | first_is(b"-V") {
-        say(out, b"replay 0.2.0\n");
+        say(out, b"replay 0.3.0\n");
         return;
     }
     if os::arg_count() != 3 {

@@ -68,7 +68,7 @@ or, after the report on the entries before entry N, why the log was taken no fur
   partial report: entry N of no kind: its first word is W, none of 0, 1, 2
   partial report: log not read on from entry N  (a read failed)
 or, where no entry was taken,
-  no report: table refused: NUMBER (REASON)
+  no report: table refused: NUMBER at byte PLACE (REASON)  (1 has no place)
   no report: table not read
   no report: log not opened
   no report: a name is too long
@@ -82,23 +82,32 @@ Stack: 1,024 KB.
     );
 }
 
-fn say_reason(out: &mut [u8], number: u32) {
+fn say_line(out: &mut [u8], number: u32) {
     say(out, b"  ");
     say_refusal(out, number);
     end_line(out);
 }
 
+// A table's, in the order in which they are tested; 3 and 15 to 17 are of one count or field.
+fn say_table_refusals(out: &mut [u8]) {
+    say_line(out, 1);
+    say_line(out, 2);
+    say_line(out, 3);
+    say_line(out, 15);
+    say_line(out, 16);
+    say_line(out, 17);
+    say_line(out, 4);
+    say_line(out, 5);
+    say_line(out, 6);
+}
+
 fn say_refusals(out: &mut [u8]) {
-    say(out, b"Refusals of a table, and of an entry:\n");
-    say_reason(out, 1);
-    say_reason(out, 2);
-    say_reason(out, 3);
-    say_reason(out, 4);
-    say_reason(out, 5);
-    say_reason(out, 6);
-    say_reason(out, 9);
-    say_reason(out, 10);
-    say_reason(out, 13);
+    say(out, b"Refusals of a table, at the byte PLACE, from 0:\n");
+    say_table_refusals(out);
+    say(out, b"Refusals of an entry:\n");
+    say_line(out, 9);
+    say_line(out, 10);
+    say_line(out, 13);
 }
 
 pub fn say_help(out: &mut [u8]) {

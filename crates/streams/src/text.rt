@@ -63,13 +63,33 @@ pub fn say_kind(out: &mut [u8], kind: u8) {
     say_if(out, k, 7, b"product");
 }
 
+// What a refusal number means.
+fn say_reason(out: &mut [u8], number: u32) {
+    say(out, b" (");
+    say_table_reason(out, number);
+    say_field_reason(out, number);
+    say_call_reason(out, number);
+    say(out, b")");
+}
+
 // A refusal number and what it means.
 pub fn say_refusal(out: &mut [u8], number: u32) {
     say_number(out, number as u64);
-    say(out, b" (");
-    say_table_reason(out, number);
-    say_call_reason(out, number);
-    say(out, b")");
+    say_reason(out, number);
+}
+
+// The byte at fault; a table that is too long has none.
+fn say_place(out: &mut [u8], number: u32, place: usize) {
+    if number != 1 {
+        say_numbered(out, b" at byte ", place as u64);
+    }
+}
+
+// A table's refusal number, the byte at fault, and what the number means.
+pub fn say_fault(out: &mut [u8], number: u32, place: usize) {
+    say_number(out, number as u64);
+    say_place(out, number, place);
+    say_reason(out, number);
 }
 
 fn say_table_reason(out: &mut [u8], number: u32) {
@@ -79,12 +99,6 @@ fn say_table_reason(out: &mut [u8], number: u32) {
         number,
         2,
         b"a count or record of the table runs past its end",
-    );
-    say_if(
-        out,
-        number,
-        3,
-        b"a count or field of the table is outside its allowed values",
     );
     say_if(
         out,
@@ -99,6 +113,29 @@ fn say_table_reason(out: &mut [u8], number: u32) {
         6,
         b"the table has over 256 places at a point, or over 1,024 products in a cross",
     );
+}
+
+// Of a count or field.
+fn say_field_reason(out: &mut [u8], number: u32) {
+    say_if(
+        out,
+        number,
+        3,
+        b"a section count or an owned count outside its limits",
+    );
+    say_if(
+        out,
+        number,
+        15,
+        b"a field outside its allowed values, or a guard at an ignore bin",
+    );
+    say_if(
+        out,
+        number,
+        16,
+        b"a, b, lo or hi outside the point's type, out of order, or a pattern outside its mask",
+    );
+    say_if(out, number, 17, b"an unused field without its unused value");
 }
 
 fn say_call_reason(out: &mut [u8], number: u32) {

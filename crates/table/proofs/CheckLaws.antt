@@ -28,22 +28,22 @@ module _ (s : List ℕ) (np bins nb at : ℕ) (r : Verdict) (er : r ≡ verdictO
   abbrev heads : List BinHead
   heads = rows (binHead s) 8 bins nb
 
-  pub ranges-stop : (r .class ≡ 0 → ⊥) → r ≡ verdictOf (afterBins s ps heads at)
+  pub ranges-stop : (r .number ≡ 0 → ⊥) → r ≡ verdictOf (afterBins s ps heads at)
   unfolding afterBins
   ranges-stop z = bind-stop (readRangeSection s ps heads) _ at r er z
 
-  module _ (zr : r .class ≡ 0) where
+  module _ (zr : r .number ≡ 0) where
     pub ranges-in : r .at ≤ length s
     ranges-in = says-in _ _ _ (length s) r (ranges-raw s ps bins nb at) er zr
 
     module _ (t : Verdict) (et : t ≡ verdictOf (readTransitionBins s ps (r .at))) where
-      pub transitions-stop : (t .class ≡ 0 → ⊥) → t ≡ verdictOf (afterBins s ps heads at)
+      pub transitions-stop : (t .number ≡ 0 → ⊥) → t ≡ verdictOf (afterBins s ps heads at)
       unfolding afterBins
       transitions-stop z =
           says-on (readRangeSection s ps heads) _ at _ _ (length s) r t (ranges-raw s ps bins nb at) er zr
           (bind-stop (readTransitionBins s ps) _ (r .at) t et z)
 
-      module _ (zt : t .class ≡ 0) where
+      module _ (zt : t .number ≡ 0) where
         pub transitions-in : t .at ≤ length s
         transitions-in = says-in _ _ _ (length s) t (transition-bins-raw s ps (r .at)) et zt
 
@@ -57,11 +57,11 @@ module _ (s : List ℕ) (np bins nb at : ℕ) (r : Verdict) (er : r ≡ verdictO
 -- ---- all sections
 
 module _ (s : List ℕ) (p : Verdict) (ep : p ≡ verdictOf (readPointSection s 0)) where
-  pub points-stop : (p .class ≡ 0 → ⊥) → p ≡ verdictOf (readTable s 0)
+  pub points-stop : (p .number ≡ 0 → ⊥) → p ≡ verdictOf (readTable s 0)
   unfolding readTable
   points-stop z = bind-stop (readPointSection s) _ 0 p ep z
 
-  module _ (zp : p .class ≡ 0) (np : ℕ) (en : np ≡ u16 s 0) where
+  module _ (zp : p .number ≡ 0) (np : ℕ) (en : np ≡ u16 s 0) where
     points-at : Says (readPointSection s 0) (pointsAt s 2 np) (2 + 11 * np) (length s)
     points-at = rw en (points-raw s 0)
 
@@ -82,13 +82,13 @@ module _ (s : List ℕ) (p : Verdict) (ep : p ≡ verdictOf (readPointSection s 
       eb′ : b ≡ verdictOf (readBinSection s (length (pointsAt s 2 np)) (p .at))
       eb′ = eb ∙ ap (λ (n : ℕ). verdictOf (readBinSection s n (p .at))) (sym (length-rows (pointRecord s) 11 2 np))
 
-      pub bins-stop : (b .class ≡ 0 → ⊥) → b ≡ verdictOf (readTable s 0)
+      pub bins-stop : (b .number ≡ 0 → ⊥) → b ≡ verdictOf (readTable s 0)
       unfolding readTable
       bins-stop z =
           says-on (readPointSection s) _ 0 _ _ (length s) p b points-at ep zp
           (bind-stop (readBinSection s (length (pointsAt s 2 np))) _ (p .at) b eb′ z)
 
-      module _ (zb : b .class ≡ 0) (nb : ℕ) (em : nb ≡ u16 s (p .at)) where
+      module _ (zb : b .number ≡ 0) (nb : ℕ) (em : nb ≡ u16 s (p .at)) where
         bins-at : (n : ℕ) → Says (readBinSection s n (p .at)) (rows (binHead s) 8 (p .at + 2) nb) (p .at + 2 + 8 * nb) (length s)
         bins-at n = rw em (bins-raw s n (p .at))
 

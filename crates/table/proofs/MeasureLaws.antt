@@ -26,17 +26,17 @@ use Rattle.reader.proofs.Laws.{part-ordered, part-inside}
 use Rattle.table.specs.declared.answer.Facts.{Facts}
 use Rattle.table.specs.declared.answer.Measure.{Measure}
 use Rattle.table.specs.declared.answer.Place.{Place}
-use Rattle.table.specs.Check.{checked, numberFor, factsFrom, factsOf, Few, measureOf, startOf, sectionStart, SectionAt}
-use Rattle.table.proofs.Outcome.{number-of-code, accepted-outcome, refused-outcome}
+use Rattle.table.specs.Check.{checked, factsFrom, factsOf, Few, measureOf, startOf, sectionStart, SectionAt}
+use Rattle.table.proofs.Outcome.{accepted-outcome, refused-outcome}
 
-abbrev pub answer : ℕ → ℕ → ℕ → Measure
-answer number words illegals = record { number = number; words = words; «illegal_places» = illegals }
+abbrev pub answer : ℕ → ℕ → ℕ → ℕ → Measure
+answer number words illegals place = record { number = number; words = words; «illegal_places» = illegals; place = place }
 
 abbrev pub place : ℕ → ℕ → ℕ → Place
 place refusal start len = record { refusal = refusal; start = start; len = len }
 
-abbrev pub facts : ℕ → ℕ → ℕ → ℕ → ℕ → Facts
-facts number points counters runs illegals = record { number = number; points = points; counters = counters; runs = runs; illegals = illegals }
+abbrev pub facts : ℕ → ℕ → ℕ → ℕ → ℕ → ℕ → Facts
+facts number place points counters runs illegals = record { number = number; place = place; points = points; counters = counters; runs = runs; illegals = illegals }
 
 -- ---- the facts of a table
 
@@ -57,20 +57,20 @@ few-of s f e = subst Few (sym e) (few-facts s)
 
 -- measuring, by the facts
 module _ (s : List ℕ) (f : Facts) (e : f ≡ factsOf s) where
-  pub measured-whole : f .number ≡ 0 → answer 0 (2 + f .counters + f .points + f .runs) (f .illegals) ≡ measureOf s
+  pub measured-whole : f .number ≡ 0 → answer 0 (2 + f .counters + f .points + f .runs) (f .illegals) 0 ≡ measureOf s
   unfolding Model.measure factsOf wordsNeeded
   measured-whole z = go (decode s) e
     where
-      go : (o : Outcome) → f ≡ factsFrom o → answer 0 (2 + f .counters + f .points + f .runs) (f .illegals) ≡ answer (measured o .number) (measured o .words) (measured o .illegals)
+      go : (o : Outcome) → f ≡ factsFrom o → answer 0 (2 + f .counters + f .points + f .runs) (f .illegals) 0 ≡ answer (measured o .number) (measured o .words) (measured o .illegals) (measured o .place)
       go (rejected x) d = absurd (some-number (x .class) (sym (ap (λ (f : Facts). f .number) d) ∙ z))
-      go (decoded t) d = ap (λ (f : Facts). answer 0 (2 + f .counters + f .points + f .runs) (f .illegals)) d
+      go (decoded t) d = ap (λ (f : Facts). answer 0 (2 + f .counters + f .points + f .runs) (f .illegals) 0) d
 
-  pub measured-refused : (f .number ≡ 0 → ⊥) → answer (f .number) 0 0 ≡ measureOf s
+  pub measured-refused : (f .number ≡ 0 → ⊥) → answer (f .number) 0 0 (f .place) ≡ measureOf s
   unfolding Model.measure factsOf
   measured-refused z = go (decode s) e
     where
-      go : (o : Outcome) → f ≡ factsFrom o → answer (f .number) 0 0 ≡ answer (measured o .number) (measured o .words) (measured o .illegals)
-      go (rejected x) d = ap (λ (f : Facts). answer (f .number) 0 0) d
+      go : (o : Outcome) → f ≡ factsFrom o → answer (f .number) 0 0 (f .place) ≡ answer (measured o .number) (measured o .words) (measured o .illegals) (measured o .place)
+      go (rejected x) d = ap (λ (f : Facts). answer (f .number) 0 0 (f .place)) d
       go (decoded t) d = absurd (z (ap (λ (f : Facts). f .number) d))
 
 -- ---- what a verdict tells
@@ -80,16 +80,16 @@ module _ (s : List ℕ) (v : Verdict) (e : v ≡ checked s) where
   unfolding recordCount countPlace
   points-number = sym (points-length s)
 
-  module _ (z : v .class ≡ 0) where
+  module _ (z : v .number ≡ 0) where
     accepted : (P : Type 0) → ((t : Table) → decode s ≡ decoded t → t ≡ rawTable s → P) → P
     accepted P k = accepted-outcome s v e z P (λ t d. k t d (raw-exact s t d))
 
-    pub facts-whole : (n : Tally) → Tallied (rawTable s) n → (p : ℕ) → p ≡ u16 s 0 → facts 0 p (n .counters) (n .runs) (n .illegals) ≡ factsOf s
+    pub facts-whole : (n : Tally) → Tallied (rawTable s) n → (p : ℕ) → p ≡ u16 s 0 → facts 0 0 p (n .counters) (n .runs) (n .illegals) ≡ factsOf s
     unfolding factsOf
-    facts-whole n told p ep = accepted (facts 0 p (n .counters) (n .runs) (n .illegals) ≡ factsOf s) λ t d r.
+    facts-whole n told p ep = accepted (facts 0 0 p (n .counters) (n .runs) (n .illegals) ≡ factsOf s) λ t d r.
         let within : withinLimits (rawTable s) ≡ true = ap withinLimits (sym r) ∙ acceptance s t d .limited in
-        ap₂ (λ (a b : ℕ). facts 0 a b (n .runs) (n .illegals)) (ep ∙ points-number ∙ ap pointTotal (sym r)) (told .counters within ∙ ap counterTotal (sym r))
-        ∙ ap₂ (λ (a b : ℕ). facts 0 (pointTotal t) (counterTotal t) a b) (told .runs ∙ ap runTotal (sym r)) (told .illegals ∙ ap illegalTotal (sym r)) ∙ ap factsFrom (sym d)
+        ap₂ (λ (a b : ℕ). facts 0 0 a b (n .runs) (n .illegals)) (ep ∙ points-number ∙ ap pointTotal (sym r)) (told .counters within ∙ ap counterTotal (sym r))
+        ∙ ap₂ (λ (a b : ℕ). facts 0 0 (pointTotal t) (counterTotal t) a b) (told .runs ∙ ap runTotal (sym r)) (told .illegals ∙ ap illegalTotal (sym r)) ∙ ap factsFrom (sym d)
 
     pub section-whole : (number : ℕ) → sectionBytes s number ≡ section s number
     unfolding section
@@ -110,21 +110,21 @@ module _ (s : List ℕ) (v : Verdict) (e : v ≡ checked s) where
           within = omega arith;
         }
 
-  module _ (z : v .class ≡ 0 → ⊥) where
-    pub facts-refused : (n : ℕ) → n ≡ numberFor (v .class) → facts n 0 0 0 0 ≡ factsOf s
+  module _ (z : v .number ≡ 0 → ⊥) where
+    pub facts-refused : facts (v .number) (v .at) 0 0 0 0 ≡ factsOf s
     unfolding factsOf
-    facts-refused n en = refused-outcome s v e z (facts n 0 0 0 0 ≡ factsOf s) λ f d c.
-        ap (λ (a : ℕ). facts a 0 0 0 0) (en ∙ ap numberFor c ∙ number-of-code (f .class)) ∙ ap factsFrom (sym d)
+    facts-refused = refused-outcome s v e z (facts (v .number) (v .at) 0 0 0 0 ≡ factsOf s) λ f d c.
+        ap (λ (q : Verdict). facts (q .number) (q .at) 0 0 0 0) c ∙ ap factsFrom (sym d)
 
     pub section-refused : (number : ℕ) → [] ≡ section s number
     unfolding section
     section-refused number = refused-outcome s v e z ([] ≡ section s number) λ f d c. ap (λ (o : Outcome). sectionOf o s number) (sym d)
 
-    pub placed-refused : (number n : ℕ) → n ≡ numberFor (v .class) → SectionAt s number (place n 0 0)
+    pub placed-refused : (number : ℕ) → SectionAt s number (place (v .number) 0 0)
     unfolding Model.measure sectionStart
-    placed-refused number n en = refused-outcome s v e z (SectionAt s number (place n 0 0)) λ f d c.
+    placed-refused number = refused-outcome s v e z (SectionAt s number (place (v .number) 0 0)) λ f d c.
         record {
-          refusal = en ∙ ap numberFor c ∙ number-of-code (f .class) ∙ ap (λ (x : Outcome). measured x .number) (sym d);
+          refusal = ap (λ (q : Verdict). q .number) c ∙ ap (λ (x : Outcome). measured x .number) (sym d);
           start = ap (λ (x : Outcome). startOf x s number) (sym d);
           bytes = section-refused number;
           within = omega arith;

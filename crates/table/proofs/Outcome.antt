@@ -10,24 +10,24 @@ use lib.ListN.{length}
 use borrow.Author.Tests.{le-leb, lt-leb, eq-eqb, ne-eqb}
 use Rattle.model.specs.Table.{Table}
 use Rattle.model.specs.Counters.{withinLimits}
-use Rattle.model.specs.Format.{FaultClass, tooLong, cut, count, value, unused, field, disagreement, leftover, limits, numberOf, Fault, Read, refused, got, readTable, Outcome, rejected, decoded, limited, wholeRead, decode}
+use Rattle.model.specs.Format.{leftover, numberOf, Fault, Read, refused, got, readTable, Outcome, rejected, decoded, limited, wholeRead, decode}
 use Rattle.model.specs.Raw.{countPlace, rawTable}
 use Rattle.model.proofs.RawExact.{table-placed}
-use Rattle.words.specs.Verdicts.{verdict, codeOf, verdictOf}
+use Rattle.model.proofs.Sections.{some-number}
+use Rattle.words.specs.Verdicts.{verdict, verdictOf}
 use Rattle.words.specs.declared.verdicts.Verdict.{Verdict}
-use Rattle.words.proofs.Laws.{code-not-none}
 use Rattle.words.proofs.Chain.{says-sound}
 use Rattle.limits.specs.declared.answer.Tally.{Tally}
 use Rattle.limits.specs.Tallies.{Tallied}
 use Rattle.table.specs.declared.check.Examined.{Examined}
-use Rattle.table.specs.Check.{outcomeVerdict, checked, numberFor, ExaminedOf}
+use Rattle.table.specs.Check.{outcomeVerdict, checked, ExaminedOf}
 
 -- a fault and the table that it refuses
-pub faulty-found : (s : List ℕ) (v : Verdict) → (v .class ≡ 0 → ⊥) → v ≡ checked s → (r : Examined) → r .verdict ≡ v → ExaminedOf s r
-faulty-found s v z e r er = record { verdict = er ∙ e; tally = λ y. absurd (z (sym (ap (λ (q : Verdict). q .class) er) ∙ y)) }
+pub faulty-found : (s : List ℕ) (v : Verdict) → (v .number ≡ 0 → ⊥) → v ≡ checked s → (r : Examined) → r .verdict ≡ v → ExaminedOf s r
+faulty-found s v z e r er = record { verdict = er ∙ e; tally = λ y. absurd (z (sym (ap (λ (q : Verdict). q .number) er) ∙ y)) }
 
-pub faulty-is : (s : List ℕ) (class at : ℕ) (v : Verdict) → v ≡ verdict (suc class) at → verdict (suc class) at ≡ checked s → (r : Examined) → r .verdict ≡ v → ExaminedOf s r
-faulty-is s class at v ev e r er = faulty-found s v (λ y. let z : suc class ≡ 0 = sym (ap (λ (q : Verdict). q .class) ev) ∙ y in omega arith) (ev ∙ e) r er
+pub faulty-is : (s : List ℕ) (number at : ℕ) (v : Verdict) → v ≡ verdict (suc number) at → verdict (suc number) at ≡ checked s → (r : Examined) → r .verdict ≡ v → ExaminedOf s r
+faulty-is s number at v ev e r er = faulty-found s v (λ y. let z : suc number ≡ 0 = sym (ap (λ (q : Verdict). q .number) ev) ∙ y in omega arith) (ev ∙ e) r er
 
 module _ (s : List ℕ) where
   pub too-long : 65536 < length s → verdict 1 0 ≡ checked s
@@ -39,22 +39,22 @@ module _ (s : List ℕ) where
     unfolding checked decode
     whole = rw (le-leb (length s) 65536 h)
 
-    pub sections-stop : (r .class ≡ 0 → ⊥) → r ≡ checked s
+    pub sections-stop : (r .number ≡ 0 → ⊥) → r ≡ checked s
     unfolding verdictOf outcomeVerdict
     sections-stop z = go (readTable s 0) e ∙ sym whole
       where
         go : (m : Read Table) → r ≡ verdictOf m → r ≡ outcomeVerdict (length s) (wholeRead (length s) m)
         go (refused f) e = e
-        go (got t at) e = absurd (z (ap (λ (q : Verdict). q .class) e))
+        go (got t at) e = absurd (z (ap (λ (q : Verdict). q .number) e))
 
-    module _ (z : r .class ≡ 0) where
+    module _ (z : r .number ≡ 0) where
       read : (readTable s 0 ≡ got (rawTable s) (r .at)) × (r .at ≡ countPlace s 10)
       read = let y = says-sound (readTable s 0) (rawTable s) (countPlace s 10) (length s) r (table-placed s) e z in (y .0 ∙ ap (got (rawTable s)) (sym (y .1)), y .1)
 
       outcome : checked s ≡ outcomeVerdict (length s) (cond (eqb (r .at) (length s)) (limited (length s) (rawTable s)) (rejected (record { class = leftover; at = r .at })))
       outcome = whole ∙ ap (λ (m : Read Table). outcomeVerdict (length s) (wholeRead (length s) m)) (read .0)
 
-      pub left-over : (r .at ≡ length s → ⊥) → verdict 8 (r .at) ≡ checked s
+      pub left-over : (r .at ≡ length s → ⊥) → verdict 5 (r .at) ≡ checked s
       unfolding outcomeVerdict
       left-over n = sym (outcome ∙ rw (ne-eqb (r .at) (length s) n))
 
@@ -69,7 +69,7 @@ module _ (s : List ℕ) where
         unfolding outcomeVerdict
         all-passed e = sym (last ∙ rw e)
 
-        over-limits : withinLimits (rawTable s) ≡ false → verdict 9 (length s) ≡ checked s
+        over-limits : withinLimits (rawTable s) ≡ false → verdict 6 (length s) ≡ checked s
         unfolding outcomeVerdict
         over-limits e = sym (last ∙ rw e)
 
@@ -78,35 +78,22 @@ module _ (s : List ℕ) where
           pub examined-whole : n .fits ≡ true → v ≡ verdict 0 (length s) → ExaminedOf s (record { verdict = v; tally = n })
           examined-whole f ev = record { verdict = ev ∙ all-passed (sym (told .fits) ∙ f); tally = λ z. told }
 
-          pub examined-over : n .fits ≡ false → v ≡ verdict 9 (length s) → (r : Examined) → r .verdict ≡ v → ExaminedOf s r
-          examined-over f ev r er = faulty-is s 8 (length s) v ev (over-limits (sym (told .fits) ∙ f)) r er
-
--- the class's number is the model's
-pub number-of-code : (c : FaultClass) → numberFor (codeOf c) ≡ numberOf c
-unfolding numberFor
-number-of-code tooLong = refl
-number-of-code cut = refl
-number-of-code count = refl
-number-of-code value = refl
-number-of-code unused = refl
-number-of-code field = refl
-number-of-code disagreement = refl
-number-of-code leftover = refl
-number-of-code limits = refl
+          pub examined-over : n .fits ≡ false → v ≡ verdict 6 (length s) → (r : Examined) → r .verdict ≡ v → ExaminedOf s r
+          examined-over f ev r er = faulty-is s 5 (length s) v ev (over-limits (sym (told .fits) ∙ f)) r er
 
 -- what a verdict tells of the outcome
-pub accepted-outcome : (s : List ℕ) (v : Verdict) → v ≡ checked s → v .class ≡ 0 → (P : Type 0) → ((t : Table) → decode s ≡ decoded t → P) → P
+pub accepted-outcome : (s : List ℕ) (v : Verdict) → v ≡ checked s → v .number ≡ 0 → (P : Type 0) → ((t : Table) → decode s ≡ decoded t → P) → P
 unfolding checked outcomeVerdict
 accepted-outcome s v e z P k = go (decode s) refl e
   where
     go : (o : Outcome) → decode s ≡ o → v ≡ outcomeVerdict (length s) o → P
-    go (rejected f) d e = absurd (code-not-none (f .class) (sym (ap (λ (q : Verdict). q .class) e) ∙ z))
+    go (rejected f) d e = absurd (some-number (f .class) (sym (ap (λ (q : Verdict). q .number) e) ∙ z))
     go (decoded t) d e = k t d
 
-pub refused-outcome : (s : List ℕ) (v : Verdict) → v ≡ checked s → (v .class ≡ 0 → ⊥) → (P : Type 0) → ((f : Fault) → decode s ≡ rejected f → v .class ≡ codeOf (f .class) → P) → P
+pub refused-outcome : (s : List ℕ) (v : Verdict) → v ≡ checked s → (v .number ≡ 0 → ⊥) → (P : Type 0) → ((f : Fault) → decode s ≡ rejected f → v ≡ verdict (numberOf (f .class)) (f .at) → P) → P
 unfolding checked outcomeVerdict
 refused-outcome s v e z P k = go (decode s) refl e
   where
     go : (o : Outcome) → decode s ≡ o → v ≡ outcomeVerdict (length s) o → P
-    go (rejected f) d e = k f d (ap (λ (q : Verdict). q .class) e)
-    go (decoded t) d e = absurd (z (ap (λ (q : Verdict). q .class) e))
+    go (rejected f) d e = k f d e
+    go (decoded t) d e = absurd (z (ap (λ (q : Verdict). q .number) e))

@@ -18,7 +18,7 @@ ghost use Rattle.model.specs.Raw.{rows, pointsAt};
 ghost use Rattle.words.specs.Verdicts.{verdictOf};
 ghost use Rattle.ranges.specs.Types.{AllWide};
 ghost use Rattle.words.specs.Points.{PointsBelow};
-ghost use Rattle.table.specs.Check.{afterBins, checked, numberFor, ExaminedOf};
+ghost use Rattle.table.specs.Check.{afterBins, checked, ExaminedOf};
 
 // The table's verdict; and what it counts, if there is no fault.
 pub struct Examined {
@@ -33,11 +33,11 @@ fn after_bins(t: &[u8], np: usize, bins: usize, nb: usize, at: usize) -> Verdict
     ensures { λ r. ⌜ r ≡ verdictOf (afterBins (now (t .entry)) (pointsAt (now (t .entry)) 2 np) (rows (binHead (now (t .entry))) 8 bins nb) at) ⌝ }
 {
     let r = range_section(t, 2, np, bins, nb, at);
-    if r.class != 0 {
+    if r.number != 0 {
         return r;
     }
     let s = transition_bins(t, 2, np, r.at);
-    if s.class != 0 {
+    if s.number != 0 {
         return s;
     }
     crosses(t, 2, np, bins, nb, s.at)
@@ -49,13 +49,13 @@ fn sections(t: &[u8]) -> Verdict
     ensures { λ r. ⌜ r ≡ verdictOf (readTable (now (t .entry)) 0) ⌝ }
 {
     let p = point_section(t, 0);
-    if p.class != 0 {
+    if p.number != 0 {
         return p;
     }
     let np = read2(t, 0) as usize;
     let place = p.at;
     let b = bin_section(t, np, place);
-    if b.class != 0 {
+    if b.number != 0 {
         return b;
     }
     let nb = read2(t, place) as usize;
@@ -87,12 +87,12 @@ pub fn examine(t: &[u8]) -> Examined
         return faulty(fault(1, 0));
     }
     let r = sections(t);
-    if r.class != 0 {
+    if r.number != 0 {
         return faulty(r);
     }
     let at = r.at;
     if at != len {
-        return faulty(fault(8, at));
+        return faulty(fault(5, at));
     }
     let n = tally(t);
     if n.fits {
@@ -102,7 +102,7 @@ pub fn examine(t: &[u8]) -> Examined
             tally: n,
         };
     }
-    faulty(fault(9, len))
+    faulty(fault(6, len))
 }
 
 // The verdict by itself.
@@ -111,17 +111,4 @@ pub fn check(t: &[u8]) -> Verdict
 {
     let e = examine(t);
     e.verdict
-}
-
-// The refusal number of a fault's class.
-pub fn number_for(class: u32) -> u32
-    ensures { λ r. ⌜ r ≡ numberFor class ⌝ }
-{
-    if class <= 3 {
-        class
-    } else if class <= 6 {
-        3
-    } else {
-        class - 3
-    }
 }

@@ -7,7 +7,6 @@ use crate::answer::Measure;
 use crate::answer::Place;
 use crate::check::check;
 use crate::check::examine;
-use crate::check::number_for;
 use reader::section_bytes;
 use reader::section_part;
 use words::bytes::read2;
@@ -22,11 +21,12 @@ pub fn facts(table: &[u8]) -> Facts
     let e = examine(table);
     let v = e.verdict;
     let n = e.tally;
-    let class = v.class;
-    if class != 0 {
-        let number = number_for(class);
+    let number = v.number;
+    let place = v.at;
+    if number != 0 {
         return Facts {
             number: number,
+            place: place,
             points: 0,
             counters: 0,
             runs: 0,
@@ -36,6 +36,7 @@ pub fn facts(table: &[u8]) -> Facts
     let points = read2(table, 0);
     Facts {
         number: 0,
+        place: 0,
         points: points as usize,
         counters: n.counters,
         runs: n.runs,
@@ -48,11 +49,13 @@ pub fn measure(table: &[u8]) -> Measure
 {
     let f = facts(table);
     let number = f.number;
+    let place = f.place;
     if number != 0 {
         return Measure {
             number: number,
             words: 0,
             illegal_places: 0,
+            place: place,
         };
     }
     let words = 2 + f.counters + f.points + f.runs;
@@ -61,6 +64,7 @@ pub fn measure(table: &[u8]) -> Measure
         number: 0,
         words: words as u32,
         illegal_places: illegals as u32,
+        place: 0,
     }
 }
 
@@ -69,7 +73,7 @@ pub fn section(table: &[u8], number: u32) -> &[u8]
     ensures { λ r. ⌜ now r ≡ Model.section (now (table .entry)) number ⌝ }
 {
     let v = check(table);
-    if v.class != 0 {
+    if v.number != 0 {
         return &table[0..0];
     }
     section_bytes(table, number)
@@ -80,9 +84,8 @@ pub fn section_place(table: &[u8], number: u32) -> Place
     ensures { λ r. ⌜ SectionAt (now (table .entry)) number r ⌝ }
 {
     let v = check(table);
-    let class = v.class;
-    if class != 0 {
-        let refusal = number_for(class);
+    let refusal = v.number;
+    if refusal != 0 {
         return Place {
             refusal: refusal,
             start: 0,

@@ -5,38 +5,38 @@ use mathlib.Core.Path.{_≡_, refl, sym, ap, _∙_}
 use mathlib.Core.List.{List, [], _∷_, _++_}
 use native.Mathlib.Omega.{arith}
 use Rattle.model.specs.Lists.{sumOf, concatOf}
-use Rattle.model.specs.Format.{FaultClass, tooLong, cut, count, value, unused, field, disagreement, leftover, limits, Read, refused, got, Reader, andThen, times, each}
+use Rattle.model.specs.Format.{FaultClass, tooLong, cut, count, value, unused, field, disagreement, leftover, limits, numberOf, Read, refused, got, Reader, andThen, times, each}
 use Rattle.model.specs.Raw.{rows}
-use Rattle.words.specs.Verdicts.{verdict, codeOf, verdictOf}
+use Rattle.words.specs.Verdicts.{verdict, verdictOf}
 use Rattle.words.specs.declared.verdicts.Verdict.{Verdict}
 use Rattle.words.proofs.Laws.{verdict-done, each-stop, each-on}
 
 -- ---- one verdict after the other
 
-unfoldable pub unlessClass : ℕ → Verdict → Verdict → Verdict
-unlessClass zero v w = w
-unlessClass (suc c) v w = v
+unfoldable pub unlessFault : ℕ → Verdict → Verdict → Verdict
+unlessFault zero v w = w
+unlessFault (suc c) v w = v
 
 -- a verdict, and where it is sound what k says from its place on
 unfoldable pub goesOn : Verdict → (ℕ → Verdict) → Verdict
-goesOn v k = unlessClass (v .class) v (k (v .at))
+goesOn v k = unlessFault (v .number) v (k (v .at))
 
 pub goes-same : (v : Verdict) (k l : ℕ → Verdict) → ((at : ℕ) → k at ≡ l at) → goesOn v k ≡ goesOn v l
 unfolding goesOn
-goes-same v k l h = ap (unlessClass (v .class) v) (h (v .at))
+goes-same v k l h = ap (unlessFault (v .number) v) (h (v .at))
 
 pub goes-assoc : (v : Verdict) (k l : ℕ → Verdict) → goesOn (goesOn v k) l ≡ goesOn v (λ at. goesOn (k at) l)
 unfolding goesOn
-goes-assoc v k l = go (v .class) refl
+goes-assoc v k l = go (v .number) refl
   where
-    go : (c : ℕ) → v .class ≡ c
-        → unlessClass (unlessClass c v (k (v .at)) .class) (unlessClass c v (k (v .at))) (l (unlessClass c v (k (v .at)) .at))
-        ≡ unlessClass c v (unlessClass (k (v .at) .class) (k (v .at)) (l (k (v .at) .at)))
-    go zero e = unfold unlessClass in refl
-    go (suc c) e = unfold unlessClass in (ap (λ (x : ℕ). unlessClass x v (l (v .at))) e)
+    go : (c : ℕ) → v .number ≡ c
+        → unlessFault (unlessFault c v (k (v .at)) .number) (unlessFault c v (k (v .at))) (l (unlessFault c v (k (v .at)) .at))
+        ≡ unlessFault c v (unlessFault (k (v .at) .number) (k (v .at)) (l (k (v .at) .at)))
+    go zero e = unfold unlessFault in refl
+    go (suc c) e = unfold unlessFault in (ap (λ (x : ℕ). unlessFault x v (l (v .at))) e)
 
-refused-stays : (c : FaultClass) (at : ℕ) (k : ℕ → Verdict) → verdict (codeOf c) at ≡ goesOn (verdict (codeOf c) at) k
-unfolding goesOn unlessClass
+refused-stays : (c : FaultClass) (at : ℕ) (k : ℕ → Verdict) → verdict (numberOf c) at ≡ goesOn (verdict (numberOf c) at) k
+unfolding goesOn unlessFault
 refused-stays tooLong at k = refl
 refused-stays cut at k = refl
 refused-stays count at k = refl
@@ -51,7 +51,7 @@ pub then-verdict : {A B : Type 0} (m : Read A) (k : A → Reader B) (g : ℕ →
     → verdictOf (andThen m k) ≡ goesOn (verdictOf m) g
 unfolding verdictOf
 then-verdict (refused f) k g h = refused-stays (f .class) (f .at) g
-then-verdict (got a at) k g h = unfold goesOn unlessClass in h a at
+then-verdict (got a at) k g h = unfold goesOn unlessFault in h a at
 
 -- a record and those after it
 pub cons-verdict : {A : Type 0} (m : Read A) (k : ℕ → Read (List A))
@@ -73,7 +73,7 @@ times-same one other h (suc n) at =
 
 pub times-add : {A : Type 0} (one : Reader A) (a b at : ℕ) → verdictOf (times (a + b) one at) ≡ goesOn (verdictOf (times a one at)) (λ next. verdictOf (times b one next))
 unfolding times
-times-add one zero b at = ap (λ (n : ℕ). verdictOf (times n one at)) (let y : 0 + b ≡ b = omega arith in y) ∙ (unfold goesOn unlessClass verdictOf in refl)
+times-add one zero b at = ap (λ (n : ℕ). verdictOf (times n one at)) (let y : 0 + b ≡ b = omega arith in y) ∙ (unfold goesOn unlessFault verdictOf in refl)
 times-add one (suc a) b at =
     ap (λ (n : ℕ). verdictOf (times n one at)) (let y : suc a + b ≡ suc (a + b) = omega arith in y)
     ∙ cons-verdict (one at) (times (a + b) one)
@@ -85,7 +85,7 @@ times-add one (suc a) b at =
 
 pub each-append : {A B : Type 0} (one : A → Reader B) (xs ys : List A) (at : ℕ) → verdictOf (each one (xs ++ ys) at) ≡ goesOn (verdictOf (each one xs at)) (λ next. verdictOf (each one ys next))
 unfolding each
-each-append one [] ys at = unfold goesOn unlessClass verdictOf in refl
+each-append one [] ys at = unfold goesOn unlessFault verdictOf in refl
 each-append one (x ∷ xs) ys at =
     cons-verdict (one x at) (each one (xs ++ ys))
     ∙ goes-same (verdictOf (one x at)) _ _ (each-append one xs ys)
@@ -118,8 +118,8 @@ module _ {A B : Type 0} (one : A → Reader B) where
 -- an owner in a row that the code has read already
 module _ {A B : Type 0} (one : A → Reader B) (says : ℕ → A) (size m i place at : ℕ) (x : Verdict) (inv : x ≡ verdictOf (each one (rows says size place (m - i)) at))
     (o : A) (r : Verdict) (h : i < m) (eo : o ≡ says place) (e : r ≡ verdictOf (one o at)) where
-  pub owner-stop : (r .class ≡ 0 → ⊥) → r ≡ x
+  pub owner-stop : (r .number ≡ 0 → ⊥) → r ≡ x
   owner-stop z = each-stop one says size m i place at x inv r h (e ∙ ap (λ (y : A). verdictOf (one y at)) eo) z
 
-  pub owner-on : r .class ≡ 0 → x ≡ verdictOf (each one (rows says size (place + size) (m - (i + 1))) (r .at))
+  pub owner-on : r .number ≡ 0 → x ≡ verdictOf (each one (rows says size (place + size) (m - (i + 1))) (r .at))
   owner-on z = each-on one says size m i place at x inv r h (e ∙ ap (λ (y : A). verdictOf (one y at)) eo) z

@@ -11,13 +11,14 @@ use lib.Dec.{leb}
 use lib.ListN.{length}
 use borrow.Author.Needs.{needs}
 use borrow.Author.Tests.{leb-true, le-leb, lt-leb}
-use Rattle.model.specs.Format.{FaultClass, tooLong, cut, count, value, unused, field, disagreement, leftover, limits, Read, refused, got, Reader, Test, tested, andThen, done, times, each, readRecord}
+use Rattle.model.specs.Format.{cut, Read, refused, got, Reader, Test, tested, andThen, done, times, each, readRecord}
 use Rattle.model.specs.Lists.{sumOf}
 use Rattle.model.specs.Raw.{rows}
 use Rattle.model.proofs.Booleans.{false-true}
 use Rattle.model.proofs.Lists.{none-left, one-left}
+use Rattle.model.proofs.Sections.{some-number}
 use Rattle.words.specs.Sums.{sumFrom}
-use Rattle.words.specs.Verdicts.{verdict, codeOf, verdictOf, verdictIn, unlessOk}
+use Rattle.words.specs.Verdicts.{verdict, verdictOf, verdictIn, unlessOk}
 use Rattle.words.specs.declared.verdicts.Verdict.{Verdict}
 
 -- ---- tests and records
@@ -61,9 +62,9 @@ verdict-in-choice true x y tests f = refl
 verdict-in-choice false x y tests f = refl
 
 -- what comes after a test counts only where it passes
-pub unless-same : (b : Bool) (class at : ℕ) (x y : Verdict) → (b ≡ true → x ≡ y) → unlessOk b class at x ≡ unlessOk b class at y
-unless-same true class at x y h = h refl
-unless-same false class at x y h = refl
+pub unless-same : (b : Bool) (number at : ℕ) (x y : Verdict) → (b ≡ true → x ≡ y) → unlessOk b number at x ≡ unlessOk b number at y
+unless-same true number at x y h = h refl
+unless-same false number at x y h = refl
 
 pub verdict-record : {A : Type 0} (s : List ℕ) (size : ℕ) (tests : ℕ → List Test) (says : ℕ → A) (at : ℕ)
     → verdictOf (readRecord s size tests says at) ≡ unlessOk (leb (at + size) (length s)) 2 at (verdictIn (tests at) (verdict 0 (at + size)))
@@ -80,48 +81,37 @@ module _ {A : Type 0} (s : List ℕ) (size : ℕ) (tests : ℕ → List Test) (s
   record-whole h e = e ∙ sym (rw (le-leb (at + size) (length s) h) at (verdict-record s size tests says at))
 
 -- a record that is sound ends within the table
-sound-test : (b : Bool) (class at : ℕ) (rest r : Verdict) → r ≡ unlessOk b (suc class) at rest → r .class ≡ 0 → b ≡ true
-sound-test true class at rest r e z = refl
-sound-test false class at rest r e z = absurd (let y : suc class ≡ 0 = sym (ap (λ (q : Verdict). q .class) e) ∙ z in omega arith)
+sound-test : (b : Bool) (number at : ℕ) (rest r : Verdict) → r ≡ unlessOk b (suc number) at rest → r .number ≡ 0 → b ≡ true
+sound-test true number at rest r e z = refl
+sound-test false number at rest r e z = absurd (let y : suc number ≡ 0 = sym (ap (λ (q : Verdict). q .number) e) ∙ z in omega arith)
 
 -- ---- one after the other
 
-pub code-not-none : (c : FaultClass) → codeOf c ≡ 0 → ⊥
-code-not-none tooLong e = omega arith
-code-not-none cut e = omega arith
-code-not-none count e = omega arith
-code-not-none value e = omega arith
-code-not-none unused e = omega arith
-code-not-none field e = omega arith
-code-not-none disagreement e = omega arith
-code-not-none leftover e = omega arith
-code-not-none limits e = omega arith
-
-sound-in : (tests : List Test) (f r : Verdict) → r ≡ verdictIn tests f → r .class ≡ 0 → r ≡ f
+sound-in : (tests : List Test) (f r : Verdict) → r ≡ verdictIn tests f → r .number ≡ 0 → r ≡ f
 unfolding verdictIn
 sound-in [] f r e z = e
 sound-in ((true, class, at) ∷ tests) f r e z = sound-in tests f r e z
-sound-in ((false, class, at) ∷ tests) f r e z = absurd (code-not-none class (sym (ap (λ (q : Verdict). q .class) e) ∙ z))
+sound-in ((false, class, at) ∷ tests) f r e z = absurd (some-number class (sym (ap (λ (q : Verdict). q .number) e) ∙ z))
 
 pub sound-record : {A : Type 0} (s : List ℕ) (size : ℕ) (tests : ℕ → List Test) (says : ℕ → A) (at : ℕ) (r : Verdict)
-    → r ≡ verdictOf (readRecord s size tests says at) → r .class ≡ 0 → (at + size ≤ length s) × (r ≡ verdict 0 (at + size))
+    → r ≡ verdictOf (readRecord s size tests says at) → r .number ≡ 0 → (at + size ≤ length s) × (r ≡ verdict 0 (at + size))
 unfolding verdictIn
 sound-record s size tests says at r e z =
     let e₁ : r ≡ verdictIn ((leb (at + size) (length s), cut, at) ∷ tests at) (verdict 0 (at + size)) = e ∙ verdict-record s size tests says at in
     (leb-true _ _ (sound-test _ 1 at _ r e₁ z), sound-in ((leb (at + size) (length s), cut, at) ∷ tests at) (verdict 0 (at + size)) r e₁ z)
 
 pub record-in : {A : Type 0} (s : List ℕ) (size : ℕ) (tests : ℕ → List Test) (says : ℕ → A) (at : ℕ) (r : Verdict)
-    → r ≡ verdictOf (readRecord s size tests says at) → r .class ≡ 0 → r .at ≤ length s
+    → r ≡ verdictOf (readRecord s size tests says at) → r .number ≡ 0 → r .at ≤ length s
 record-in s size tests says at r e z =
     let h = sound-record s size tests says at r e z in
     let y : r .at ≡ at + size = ap (λ (q : Verdict). q .at) (h .1) in
     omega (arith, h .0)
 
 -- a fault stays
-pub verdict-stop : {A B : Type 0} (m : Read A) (k : A → Reader B) (r : Verdict) → r ≡ verdictOf m → (r .class ≡ 0 → ⊥) → r ≡ verdictOf (andThen m k)
+pub verdict-stop : {A B : Type 0} (m : Read A) (k : A → Reader B) (r : Verdict) → r ≡ verdictOf m → (r .number ≡ 0 → ⊥) → r ≡ verdictOf (andThen m k)
 unfolding verdictOf
 verdict-stop (refused f) k r e z = e
-verdict-stop (got a at) k r e z = absurd (z (ap (λ (q : Verdict). q .class) e))
+verdict-stop (got a at) k r e z = absurd (z (ap (λ (q : Verdict). q .number) e))
 
 -- what is done with what was read, and is no reading, is forgotten
 pub verdict-done : {A B : Type 0} (m : Read A) (f : A → B) → verdictOf (andThen m (λ a. done (f a))) ≡ verdictOf m
@@ -130,14 +120,14 @@ verdict-done (refused f) g = refl
 verdict-done (got a at) g = refl
 
 -- a record and those after it
-pub verdict-cons-stop : {A : Type 0} (m : Read A) (k : ℕ → Read (List A)) (r : Verdict) → r ≡ verdictOf m → (r .class ≡ 0 → ⊥)
+pub verdict-cons-stop : {A : Type 0} (m : Read A) (k : ℕ → Read (List A)) (r : Verdict) → r ≡ verdictOf m → (r .number ≡ 0 → ⊥)
     → r ≡ verdictOf (andThen m λ a next. andThen (k next) λ rest end. got (a ∷ rest) end)
 verdict-cons-stop m k r e z = verdict-stop m (λ a next. andThen (k next) λ rest end. got (a ∷ rest) end) r e z
 
-pub verdict-cons-on : {A : Type 0} (m : Read A) (k : ℕ → Read (List A)) (r : Verdict) → r ≡ verdictOf m → r .class ≡ 0
+pub verdict-cons-on : {A : Type 0} (m : Read A) (k : ℕ → Read (List A)) (r : Verdict) → r ≡ verdictOf m → r .number ≡ 0
     → verdictOf (andThen m λ a next. andThen (k next) λ rest end. got (a ∷ rest) end) ≡ verdictOf (k (r .at))
 unfolding verdictOf
-verdict-cons-on (refused f) k r e z = absurd (code-not-none (f .class) (sym (ap (λ (q : Verdict). q .class) e) ∙ z))
+verdict-cons-on (refused f) k r e z = absurd (some-number (f .class) (sym (ap (λ (q : Verdict). q .number) e) ∙ z))
 verdict-cons-on (got a at) k r e z = verdict-done (k at) (λ rest. a ∷ rest) ∙ ap (λ (n : ℕ). verdictOf (k n)) (sym (ap (λ (q : Verdict). q .at) e))
 
 module _ {A : Type 0} (one : Reader A) where
@@ -149,11 +139,11 @@ module _ {A : Type 0} (one : Reader A) where
     unfolding times verdictOf
     times-done r h e = e ∙ sym (rw (none-left m i h) at inv)
 
-    pub times-stop : (r : Verdict) → i < m → r ≡ verdictOf (one at) → (r .class ≡ 0 → ⊥) → r ≡ x
+    pub times-stop : (r : Verdict) → i < m → r ≡ verdictOf (one at) → (r .number ≡ 0 → ⊥) → r ≡ x
     unfolding times
     times-stop r h e z = verdict-cons-stop (one at) (times (m - (i + 1)) one) r e z ∙ sym (rw (one-left m i h) at inv)
 
-    pub times-on : (r : Verdict) → i < m → r ≡ verdictOf (one at) → r .class ≡ 0 → x ≡ verdictOf (times (m - (i + 1)) one (r .at))
+    pub times-on : (r : Verdict) → i < m → r ≡ verdictOf (one at) → r .number ≡ 0 → x ≡ verdictOf (times (m - (i + 1)) one (r .at))
     unfolding times
     times-on r h e z = (rw (one-left m i h) at inv) ∙ verdict-cons-on (one at) (times (m - (i + 1)) one) r e z
 
@@ -161,33 +151,33 @@ pub ruleset timess = (needs, record-in, times-start, times-done, times-stop, tim
 
 -- ---- what was read, where nothing was refused: the records by their places
 
-pub tested-got : {A : Type 0} (tests : List Test) (r : Read A) → verdictOf (tested tests r) .class ≡ 0 → tested tests r ≡ r
+pub tested-got : {A : Type 0} (tests : List Test) (r : Read A) → verdictOf (tested tests r) .number ≡ 0 → tested tests r ≡ r
 unfolding tested verdictOf
 tested-got [] r z = refl
 tested-got ((true, class, at) ∷ tests) r z = tested-got tests r z
-tested-got ((false, class, at) ∷ tests) r z = absurd (code-not-none class z)
+tested-got ((false, class, at) ∷ tests) r z = absurd (some-number class z)
 
 pub record-got : {A : Type 0} (s : List ℕ) (size : ℕ) (tests : ℕ → List Test) (says : ℕ → A) (at : ℕ)
-    → verdictOf (readRecord s size tests says at) .class ≡ 0 → readRecord s size tests says at ≡ got (says at) (at + size)
+    → verdictOf (readRecord s size tests says at) .number ≡ 0 → readRecord s size tests says at ≡ got (says at) (at + size)
 unfolding readRecord
 record-got s size tests says at z = tested-got ((leb (at + size) (length s), cut, at) ∷ tests at) (got (says at) (at + size)) z
 
 -- where nothing was refused, something was read
-pub sound-got : {A P : Type 0} (m : Read A) (r : Verdict) → r ≡ verdictOf m → r .class ≡ 0 → ((a : A) → m ≡ got a (r .at) → P) → P
+pub sound-got : {A P : Type 0} (m : Read A) (r : Verdict) → r ≡ verdictOf m → r .number ≡ 0 → ((a : A) → m ≡ got a (r .at) → P) → P
 unfolding verdictOf
-sound-got (refused f) r e z k = absurd (code-not-none (f .class) (sym (ap (λ (q : Verdict). q .class) e) ∙ z))
+sound-got (refused f) r e z k = absurd (some-number (f .class) (sym (ap (λ (q : Verdict). q .number) e) ∙ z))
 sound-got (got a at) r e z k = k a (ap (got a) (sym (ap (λ (q : Verdict). q .at) e)))
 
-pub then-sound : {A B : Type 0} (m : Read A) (k : A → Reader B) → verdictOf (andThen m k) .class ≡ 0 → verdictOf m .class ≡ 0
+pub then-sound : {A B : Type 0} (m : Read A) (k : A → Reader B) → verdictOf (andThen m k) .number ≡ 0 → verdictOf m .number ≡ 0
 unfolding verdictOf
 then-sound (refused f) k z = z
 then-sound (got a at) k z = refl
 
-pub class-of : {A : Type 0} (m : Read A) (r : Verdict) → r ≡ verdictOf m → r .class ≡ 0 → verdictOf m .class ≡ 0
-class-of m r e z = sym (ap (λ (q : Verdict). q .class) e) ∙ z
+pub number-of : {A : Type 0} (m : Read A) (r : Verdict) → r ≡ verdictOf m → r .number ≡ 0 → verdictOf m .number ≡ 0
+number-of m r e z = sym (ap (λ (q : Verdict). q .number) e) ∙ z
 
 module _ {A : Type 0} (s : List ℕ) (size : ℕ) (tests : ℕ → List Test) (says : ℕ → A) where
-  pub times-got : (n at : ℕ) → verdictOf (times n (readRecord s size tests says) at) .class ≡ 0
+  pub times-got : (n at : ℕ) → verdictOf (times n (readRecord s size tests says) at) .number ≡ 0
       → times n (readRecord s size tests says) at ≡ got (rows says size at n) (at + size * n)
   unfolding times rows
   times-got zero at z = ap (got []) (let y : at ≡ at + size * 0 = omega arith in y)
@@ -196,8 +186,8 @@ module _ {A : Type 0} (s : List ℕ) (size : ℕ) (tests : ℕ → List Test) (s
       let e : one at ≡ got (says at) (at + size) = record-got s size tests says at (then-sound (one at) (λ a next. andThen (times n one next) λ rest end. got (a ∷ rest) end) z) in
       let step : times (suc n) one at ≡ andThen (times n one (at + size)) (λ rest end. got (says at ∷ rest) end) =
       ap (λ (m : Read A). andThen m (λ a next. andThen (times n one next) λ rest end. got (a ∷ rest) end)) e in
-      let z₁ : verdictOf (times n one (at + size)) .class ≡ 0 =
-      sym (ap (λ (q : Verdict). q .class) (ap verdictOf step ∙ verdict-done (times n one (at + size)) (λ rest. says at ∷ rest))) ∙ z in
+      let z₁ : verdictOf (times n one (at + size)) .number ≡ 0 =
+      sym (ap (λ (q : Verdict). q .number) (ap verdictOf step ∙ verdict-done (times n one (at + size)) (λ rest. says at ∷ rest))) ∙ z in
       step ∙ ap (λ (m : Read (List A)). andThen m (λ rest end. got (says at ∷ rest) end)) (times-got n (at + size) z₁)
       ∙ ap (got (says at ∷ rows says size (at + size) n)) (let y : at + size + size * n ≡ at + size * suc n = omega arith in y)
 
@@ -224,11 +214,11 @@ module _ {A B : Type 0} (one : A → Reader B) (os : List A) (at : ℕ) (x : Ver
   unfolding each verdictOf
   owners-done r h e = e ∙ sym (rw h at inv)
 
-  pub owners-stop : (o : A) (rest : List A) (r : Verdict) → os ≡ o ∷ rest → r ≡ verdictOf (one o at) → (r .class ≡ 0 → ⊥) → r ≡ x
+  pub owners-stop : (o : A) (rest : List A) (r : Verdict) → os ≡ o ∷ rest → r ≡ verdictOf (one o at) → (r .number ≡ 0 → ⊥) → r ≡ x
   unfolding each
   owners-stop o rest r h e z = verdict-cons-stop (one o at) (each one rest) r e z ∙ sym (rw h at inv)
 
-  pub owners-on : (o : A) (rest : List A) (r : Verdict) → os ≡ o ∷ rest → r ≡ verdictOf (one o at) → r .class ≡ 0 → x ≡ verdictOf (each one rest (r .at))
+  pub owners-on : (o : A) (rest : List A) (r : Verdict) → os ≡ o ∷ rest → r ≡ verdictOf (one o at) → r .number ≡ 0 → x ≡ verdictOf (each one rest (r .at))
   unfolding each
   owners-on o rest r h e z = (rw h at inv) ∙ verdict-cons-on (one o at) (each one rest) r e z
 
@@ -241,11 +231,11 @@ module _ {A B : Type 0} (one : A → Reader B) (says : ℕ → A) (size : ℕ) w
     unfolding each rows verdictOf
     each-done r h e = e ∙ sym (rw (none-left m i h) at inv)
 
-    pub each-stop : (r : Verdict) → i < m → r ≡ verdictOf (one (says place) at) → (r .class ≡ 0 → ⊥) → r ≡ x
+    pub each-stop : (r : Verdict) → i < m → r ≡ verdictOf (one (says place) at) → (r .number ≡ 0 → ⊥) → r ≡ x
     unfolding each rows
     each-stop r h e z = verdict-cons-stop (one (says place) at) (each one (rows says size (place + size) (m - (i + 1)))) r e z ∙ sym (rw (one-left m i h) at inv)
 
-    pub each-on : (r : Verdict) → i < m → r ≡ verdictOf (one (says place) at) → r .class ≡ 0 → x ≡ verdictOf (each one (rows says size (place + size) (m - (i + 1))) (r .at))
+    pub each-on : (r : Verdict) → i < m → r ≡ verdictOf (one (says place) at) → r .number ≡ 0 → x ≡ verdictOf (each one (rows says size (place + size) (m - (i + 1))) (r .at))
     unfolding each rows
     each-on r h e z = (rw (one-left m i h) at inv) ∙ verdict-cons-on (one (says place) at) (each one (rows says size (place + size) (m - (i + 1)))) r e z
 

@@ -31,6 +31,6 @@ pub fn owned_count(t: &[u8], hi: u16, sum: usize, at: usize) -> Verdict
         return fault(2, at);
     }
     let n = whole2(t, at);
-    let b = test(n as usize == sum, 7, at, sound(end));
+    let b = test(n as usize == sum, 4, at, sound(end));
     test(n <= hi, 3, at, b)
 }

@@ -1,10 +1,10 @@
-// What a check says: the class of the fault, from 1, and its byte. Class 0 is no fault, and then the byte is where reading goes on.
+// What a check says: the refusal number and the byte at fault. Number 0 is no fault, and then the byte is where reading goes on.
 ghost use mathlib.Core.Path.{_≡_};
 ghost use mathlib.Core.Bool.{cond};
 ghost use Rattle.words.specs.Verdicts.{verdict, unlessOk};
 
 pub struct Verdict {
-    pub class: u32,
+    pub number: u32,
     pub at: usize,
 }
 
@@ -12,23 +12,23 @@ pub struct Verdict {
 pub fn sound(at: usize) -> Verdict
     ensures { λ r. ⌜ r ≡ verdict 0 at ⌝ }
 {
-    Verdict { class: 0, at: at }
+    Verdict { number: 0, at: at }
 }
 
-pub fn fault(class: u32, at: usize) -> Verdict
-    ensures { λ r. ⌜ r ≡ verdict class at ⌝ }
+pub fn fault(number: u32, at: usize) -> Verdict
+    ensures { λ r. ⌜ r ≡ verdict number at ⌝ }
 {
     Verdict {
-        class: class,
+        number: number,
         at: at,
     }
 }
 
 // One test: where it passes, what the tests after it say.
-pub fn test(ok: bool, class: u32, at: usize, rest: Verdict) -> Verdict
-    ensures { λ r. ⌜ r ≡ unlessOk ok class at rest ⌝ }
+pub fn test(ok: bool, number: u32, at: usize, rest: Verdict) -> Verdict
+    ensures { λ r. ⌜ r ≡ unlessOk ok number at rest ⌝ }
 {
-    let f = fault(class, at);
+    let f = fault(number, at);
     if ok { rest } else { f }
 }
 

@@ -6,13 +6,10 @@ use Rattle.table.proofs.facts.Tie as tie
 examine-requires : tie.Need-examine-requires
 examine-requires c κs = search needs
 
-number-for-requires : tie.Need-number-for-requires
-number-for-requires c κs = search needs
-
 returns : tie.Need-returns
 returns c =
-    let e = c .before .before .before .before .examine .ensures in
-    let f = facts-refused _ _ (e .verdict) (c .before .if1 .taken) _ (c .number-for .ensures) in
+    let e = c .before .before .before .examine .ensures in
+    let f = facts-refused _ _ (e .verdict) (c .if1 .taken) in
     (f, few-of _ _ f)
 
 read2-requires : tie.Need-read2-requires
@@ -30,4 +27,4 @@ returns-2 c =
 pub facts-spec : {M : Type 1} → statement M
 facts-spec =
     tie.close
-    (tie.spec examine-requires number-for-requires returns read2-requires cast-t9 returns-2)
+    (tie.spec examine-requires returns read2-requires cast-t9 returns-2)

@@ -19,11 +19,11 @@ add-words-2 c = let f = c .before .before .before .facts .ensures .1 in omega (a
 add-words-3 : tie.Need-add-words-3
 add-words-3 c = let f = c .before .before .before .before .facts .ensures .1 in omega (arith, f .counters, f .points, f .runs)
 
-cast-t9 : tie.Need-cast-t9
-cast-t9 c = let f = c .before .before .before .before .facts .ensures .1 in omega (arith, f .counters, f .points, f .runs)
-
 cast-t10 : tie.Need-cast-t10
-cast-t10 c = let f = c .before .before .before .before .facts .ensures .1 in omega (arith, f .illegals)
+cast-t10 c = let f = c .before .before .before .before .facts .ensures .1 in omega (arith, f .counters, f .points, f .runs)
+
+cast-t11 : tie.Need-cast-t11
+cast-t11 c = let f = c .before .before .before .before .facts .ensures .1 in omega (arith, f .illegals)
 
 returns-2 : tie.Need-returns-2
 returns-2 c = measured-whole _ _ (c .before .before .before .before .facts .ensures .0) (c .before .before .before .if1 .left)
@@ -31,4 +31,4 @@ returns-2 c = measured-whole _ _ (c .before .before .before .before .facts .ensu
 pub measure-spec : {M : Type 1} → statement M
 measure-spec =
     tie.close
-    (tie.spec facts-requires returns add-words add-words-2 add-words-3 cast-t9 cast-t10 returns-2)
+    (tie.spec facts-requires returns add-words add-words-2 add-words-3 cast-t10 cast-t11 returns-2)

@@ -8,17 +8,14 @@ use Rattle.table.proofs.section_place.Tie as tie
 check-requires : tie.Need-check-requires
 check-requires c κs = search needs
 
-number-for-requires : tie.Need-number-for-requires
-number-for-requires c κs = search needs
-
 returns : tie.Need-returns
-returns c = placed-refused _ _ (c .before .before .check .ensures) (c .before .if1 .taken) _ _ (c .number-for .ensures)
+returns c = placed-refused _ _ (c .before .check .ensures) (c .if1 .taken) _
 
 section-part-requires : tie.Need-section-part-requires
 section-part-requires c κs = search needs
 
-sub-t10 : tie.Need-sub-t10
-sub-t10 c = omega (arith, part-ordered _ _ _ (c .section-part .ensures))
+sub-t9 : tie.Need-sub-t9
+sub-t9 c = omega (arith, part-ordered _ _ _ (c .section-part .ensures))
 
 returns-2 : tie.Need-returns-2
 returns-2 c = placed-whole _ _ (c .before .before .check .ensures) (c .before .if1 .left) _ _ (c .section-part .ensures)
@@ -26,4 +23,4 @@ returns-2 c = placed-whole _ _ (c .before .before .check .ensures) (c .before .i
 pub section-place-spec : {M : Type 1} → statement M
 section-place-spec =
     tie.close
-    (tie.spec check-requires number-for-requires returns section-part-requires sub-t10 returns-2)
+    (tie.spec check-requires returns section-part-requires sub-t9 returns-2)

@@ -31,7 +31,7 @@ faulty-requires-3 c κs = search needs
 
 returns-3 : tie.Need-returns-3
 returns-3 c =
-    faulty-is _ 7 _ _ (c .before .fault2 .ensures) (left-over _ (c .before .before .before .before .before .before .if1 .left) _ (c .before .before .before .before .before .sections .ensures) (c .before .before .before .if2 .left) (c .before .before .if3 .taken)) _ (c .faulty3 .ensures)
+    faulty-is _ 4 _ _ (c .before .fault2 .ensures) (left-over _ (c .before .before .before .before .before .before .if1 .left) _ (c .before .before .before .before .before .sections .ensures) (c .before .before .before .if2 .left) (c .before .before .if3 .taken)) _ (c .faulty3 .ensures)
 
 tally-requires : tie.Need-tally-requires
 tally-requires c κs = (
