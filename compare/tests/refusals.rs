@@ -3,7 +3,6 @@
 mod common;
 
 use common::{four, full, FAULTS};
-
 use compare::builder::{
     sequence, value, Cross, Form, Kind, Point, Range, Select, Step, Table, TransitionBin, ValueBin,
     Written,
@@ -37,7 +36,7 @@ fn refusal(bytes: &[u8]) -> (u32, usize) {
             assert_eq!((measure.number, measure.place), (number, place));
             assert_eq!((measure.words, measure.illegal_places), (0, 0));
             assert!((0..12).all(|section| table::section(bytes, section).is_empty()));
-            (refusal.number, refusal.place)
+            (number, place)
         }
     }
 }

@@ -39,11 +39,11 @@ static void must(const char *call, uint32_t refusal) {
 }
 
 /* Says why a table is refused, and which byte to look at; a table that is too long has none. */
-static void say_refused(uint32_t refusal, size_t at) {
+static void say_refused(FILE *to, uint32_t refusal, size_t at) {
     if (refusal == FLUVIQUEN_TABLE_TOO_LONG) {
-        printf("table refused: %u (%s)\n", refusal, in_words(refusal));
+        fprintf(to, "table refused: %u (%s)\n", refusal, in_words(refusal));
     } else {
-        printf("table refused: %u at byte %zu (%s)\n", refusal, at, in_words(refusal));
+        fprintf(to, "table refused: %u at byte %zu (%s)\n", refusal, at, in_words(refusal));
     }
 }
 
@@ -58,7 +58,7 @@ static void try_backwards(void) {
     size_t at;
     uint32_t refusal = fluviquen_measure(backwards, sizeof backwards, &words, &illegal, &at);
     if (refusal != FLUVIQUEN_ACCEPTED) {
-        say_refused(refusal, at);
+        say_refused(stdout, refusal, at);
     }
 }
 
@@ -67,7 +67,7 @@ int main(void) {
     size_t at;
     uint32_t refusal = fluviquen_measure(table, sizeof table, &words, &illegal, &at);
     if (refusal != FLUVIQUEN_ACCEPTED) {
-        say_refused(refusal, at);
+        say_refused(stderr, refusal, at);
         return 1;
     }
     printf("register words %u, illegal places %u\n", words, illegal);

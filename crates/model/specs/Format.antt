@@ -20,7 +20,7 @@ pub data FaultClass : Type 0 where
   tooLong cut : FaultClass
   -- a section's count or an owned count outside its limits
   count : FaultClass
-  -- any field outside its allowed values that is in no other class, an ignore bin's guard too
+  -- any other field outside its allowed values, an ignore bin's guard too
   field : FaultClass
   -- a, b, lo or hi outside the point's type or out of order, or a pattern outside its mask
   value : FaultClass
@@ -30,7 +30,7 @@ pub data FaultClass : Type 0 where
   disagreement : FaultClass
   leftover limits : FaultClass
 
--- the refusal numbers: each class has its own
+-- document 01's refusal numbers; count, field, value and unused are the four classes of document 02, Item 1
 abbrev pub numberOf : FaultClass → ℕ
 numberOf tooLong = 1
 numberOf cut = 2
@@ -42,8 +42,9 @@ numberOf disagreement = 4
 numberOf leftover = 5
 numberOf limits = 6
 
--- The byte at fault: the count or the field; for `cut` where the missing count or record would begin; for `disagreement` the count or record
--- after which it is tested; for `leftover` the first byte left over; for `limits` the table's length. `tooLong` has none: 0.
+-- The byte at fault: the count or the field, the later of two that are possible alone; for `cut` where the missing count or record would begin;
+-- for `disagreement` the count or record after which it is tested; for `leftover` the first byte left over; for `limits` the table's length.
+-- `tooLong` has none: 0.
 pub record Fault : Type 0 where
   pub class : FaultClass
   pub at : ℕ
