@@ -27,6 +27,12 @@
 //! assert_eq!(alarms, 1);
 //! // Auto bins 0 and 1 of 0, 1 and 2; 3 is the illegal bin's.
 //! assert_eq!(item_figure(&bytes, &register, 0)?, Some(200.0 / 3.0));
+//!
+//! // The span of the illegal bin, from 3 to 2: a refusal says why, and where.
+//! bytes[34] = 2;
+//! let refusal = Table::new(&bytes).unwrap_err();
+//! assert_eq!((refusal.number(), refusal.place()), (16, Some(34)));
+//! assert!(refusal.to_string().starts_with("table refused: 16 at byte 34 (a, b, lo or hi"));
 //! # Ok::<(), fluviquen::Refusal>(())
 //! ```
 
