@@ -1,4 +1,6 @@
 // Elements of flat arrays. Those that write one after the other answer where the next stands.
+#![tactic(auto)]
+
 ghost use Rattle.std.specs.Prelude.{◌≡◌, [], ◌∷◌, ◌<◌, ◌≤◌, ◌+◌, length, get_or, replicate};
 ghost use Rattle.model.specs.Lists.{as_bit};
 ghost use Rattle.arrays.specs.Put.{put};

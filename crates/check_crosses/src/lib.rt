@@ -1,4 +1,6 @@
 // The check of sections 8 to 10 of a table: crosses, cross bins, select tokens.
+#![tactic(auto)]
+
 pub mod bins;
 pub mod heads;
 pub mod selects;

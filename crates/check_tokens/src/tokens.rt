@@ -34,7 +34,7 @@ fn cover_bin(t: &[u8], bins: usize, nb: usize, p: usize, b: usize) -> bool
 }
 
 // The fields of a token.
-#[derive(Drop)]
+#[derive(Clone, Copy)]
 struct Token {
     op: u8,
     position: u8,

@@ -1,4 +1,6 @@
 // The check of sections 4 to 7 of a table: transition bins, their sequences, their steps, their step ranges.
+#![tactic(auto)]
+
 pub mod sequences;
 pub mod step_ranges;
 pub mod steps;

@@ -49,7 +49,7 @@ fn first_default(t: &[u8], base: usize, i: usize) -> bool
 }
 
 // The fields of a bin.
-#[derive(Drop)]
+#[derive(Clone, Copy)]
 struct Bin {
     point: u8,
     kind: u8,

@@ -11,14 +11,14 @@ use values::fields::guard_true;
 use words::bytes::byte;
 
 // Where the flags begin, and which they are: those of the total, or those of a sample.
-#[derive(Drop)]
+#[derive(Clone, Copy)]
 pub struct Ask {
     pub at: usize,
     pub total: bool,
 }
 
 // Where a cross's record stands, where its bins begin, and how many products it has.
-#[derive(Drop)]
+#[derive(Clone, Copy)]
 pub struct Rows {
     pub cross: usize,
     pub bins: usize,
@@ -26,7 +26,7 @@ pub struct Rows {
 }
 
 // Whether a cross's guard holds, and which of its bins have a product that counts: bit i of `own` for cover bin i, bit i of `every` for illegal bin i.
-#[derive(Drop)]
+#[derive(Clone, Copy)]
 pub struct Raised {
     pub live: bool,
     pub own: u16,

@@ -18,7 +18,7 @@ use products::places::{Place, shape_of};
 use words::bytes::byte;
 
 // What stands for a cover bin of a cross, for an illegal one, and for a product.
-#[derive(Drop)]
+#[derive(Clone, Copy)]
 pub struct Elements {
     pub cover: u8,
     pub illegal: u8,

@@ -18,7 +18,7 @@ use values::fields::guard_true;
 use words::bytes::byte;
 
 // A cross, its first counter, where its marks begin, and where the next place stands.
-#[derive(Drop)]
+#[derive(Clone, Copy)]
 pub struct Cross {
     pub place: Place,
     pub shape: Shape,

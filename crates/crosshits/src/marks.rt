@@ -25,7 +25,7 @@ pub fn marks_of(list: &[u16], n: usize, plan: &[u16], start: usize, mask: u16) -
 }
 
 // Where the next place stands, the counter of product 0, and where the mark of product 0 stands.
-#[derive(Drop)]
+#[derive(Clone, Copy)]
 pub struct Products {
     pub at: usize,
     pub first: usize,

@@ -24,7 +24,7 @@ pub fn hit_count(t: &[u8], found: &[u16], point: usize, n: usize) -> usize
 }
 
 // Position q of the cross, whose point's number stands at byte `point`. `first` is the number of the first product with the parts chosen so far, `at` the place of the next number.
-#[derive(Drop)]
+#[derive(Clone, Copy)]
 pub struct Turn {
     pub at: usize,
     pub first: usize,

@@ -1,4 +1,6 @@
 // Which counters a sample hits, by what was worked out of its table once a call.
+#![tactic(auto)]
+
 ghost use Rattle.std.specs.Prelude.{◌≡◌, true, ◌+◌, ◌*◌, ◌≤◌, length, take, drop};
 ghost use Rattle.model.specs.Format.{accepted, table_of};
 ghost use Rattle.model.specs.Sampling.{Stretches, hits as hitBy};

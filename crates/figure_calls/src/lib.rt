@@ -1,4 +1,6 @@
 // The calls that ask for figures: each answers with a refusal number, 0 if the call is accepted, and the figure.
+#![tactic(auto)]
+
 ghost use Rattle.std.specs.Prelude.{◌≡◌};
 ghost use Rattle.model.specs.Register as Model;
 ghost use Rattle.figure_calls.specs.Answers.{item_answer, group_answer};
@@ -9,14 +11,14 @@ use refusals::{item_refusal, register_refusal};
 use table::facts;
 
 // A refusal number, and an item's figure.
-#[derive(Drop)]
+#[derive(Clone, Copy)]
 pub struct ItemAnswer {
     pub number: u32,
     pub figure: Figure,
 }
 
 // A refusal number, and the group's figure.
-#[derive(Drop)]
+#[derive(Clone, Copy)]
 pub struct GroupAnswer {
     pub number: u32,
     pub figure: GroupFigure,

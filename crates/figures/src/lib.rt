@@ -1,10 +1,12 @@
 // An item's figure and the group's figure.
+#![tactic(auto)]
+
 ghost use Rattle.std.specs.Prelude.{◌≡◌, [], ◌∷◌, ◌+◌, ◌≤◌};
 ghost use Rattle.model.specs.Figures.{figure_of};
 ghost use Rattle.figures.specs.Figures.{figure_case, percent_of, present_of, group_case, millionths_of, group_present_of, item, sums, sums_from, AtMostFull, mean};
 
 // An item's coverage as a percentage; nothing where its total is 0.
-#[derive(Drop)]
+#[derive(Clone, Copy)]
 pub enum Figure {
     Percent(f64),
     Nothing,
@@ -40,7 +42,7 @@ pub fn present(f: Figure) -> u32
 }
 
 // The group's coverage in millionths of a percent; missing where no item counts.
-#[derive(Drop)]
+#[derive(Clone, Copy)]
 pub enum GroupFigure {
     Millionths(u32),
     Missing,
@@ -65,7 +67,7 @@ pub fn group_present(f: GroupFigure) -> u32
 }
 
 // Over the items added so far: the sum of their weights, and the sum of their weighted figures.
-#[derive(Drop)]
+#[derive(Clone, Copy)]
 pub struct Group {
     pub weights: u64,
     pub sum: u64,

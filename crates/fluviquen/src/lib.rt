@@ -1,4 +1,6 @@
 // The library as C and Rust callers see it; include/fluviquen.h declares it.
+#![tactic(auto)]
+
 ghost use Rattle.std.specs.Prelude.{◌≡◌, ◌+◌, ◌≤◌, length, take, drop};
 ghost use Rattle.model.specs.Register as Model;
 ghost use Rattle.table.specs.Check.{section_start};

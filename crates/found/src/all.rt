@@ -17,7 +17,7 @@ use layout::{bin_sections, point_count};
 use values::points::lowest_at;
 
 // Where the rows, the spans and the pieces of a point begin in the plan.
-#[derive(Drop)]
+#[derive(Clone, Copy)]
 struct Bounds {
     rows: usize,
     spans: usize,

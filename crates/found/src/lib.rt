@@ -1,4 +1,6 @@
 // Which cover bins of a point a sample hits, from the point's rows and excluded spans. A part is a cover bin after expansion, or an auto bin.
+#![tactic(auto)]
+
 ghost use Rattle.std.specs.Prelude.{◌≡◌, true, ◌∷◌, ◌+◌, ◌/◌, ◌≤◌, ◌<◌, length};
 ghost use Rattle.model.specs.Values.{lowest, in_range};
 ghost use Rattle.model.specs.Counters.{point_at};
@@ -78,7 +80,7 @@ fn guard_holds(origins: &[u16], t: &[u8], sample: &[u32], bins: usize, k: usize)
 }
 
 // A known value, where the value bins stand, and where a row stands.
-#[derive(Drop)]
+#[derive(Clone, Copy)]
 struct Known {
     value: u64,
     bins: usize,
@@ -86,7 +88,7 @@ struct Known {
 }
 
 // Where the next part is written, and the least one that it may be.
-#[derive(Drop)]
+#[derive(Clone, Copy)]
 struct Cursor {
     at: usize,
     next: usize,
@@ -159,7 +161,7 @@ fn put_parts(
 }
 
 // The reading of a point, as a number; the lowest value of the point's type, and where the value bins stand.
-#[derive(Drop)]
+#[derive(Clone, Copy)]
 pub struct PointReading {
     pub point: usize,
     pub code: u64,

@@ -14,7 +14,7 @@ use values::fields::guard_true;
 use words::bytes::{byte, read2};
 
 // The number of a point, its value in a sample, and whether a bin of the point lists it.
-#[derive(Drop)]
+#[derive(Clone, Copy)]
 struct ListedValue {
     point: u8,
     value: u64,

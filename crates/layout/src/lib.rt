@@ -1,16 +1,18 @@
 // Where the records of each section stand, and how many there are. Past the table's end every byte reads as 0, so that any bytes have a layout.
+#![tactic(auto)]
+
 ghost use Rattle.std.specs.Prelude.{◌≡◌, ◌+◌, ◌*◌, ◌≤◌, ◌<◌};
 ghost use Rattle.layout.specs.Places.{layout_of, bin_sections_of, transition_section_of, Near, Small, SmallBins};
 
 use words::bytes::read2;
 
-#[derive(Drop)]
+#[derive(Clone, Copy)]
 pub struct Section {
     pub at: usize,
     pub count: usize,
 }
 
-#[derive(Drop)]
+#[derive(Clone, Copy)]
 pub struct Layout {
     pub points: usize,
     pub point_count: usize,
@@ -35,7 +37,7 @@ pub struct Layout {
 }
 
 // The value bins and their ranges.
-#[derive(Drop)]
+#[derive(Clone, Copy)]
 pub struct BinSections {
     pub bins: usize,
     pub bin_count: usize,

@@ -1,4 +1,6 @@
 // Refusal 6 and measuring: the counters and the products of a table are counted in one pass, never listed.
+#![tactic(auto)]
+
 pub mod answer;
 mod bins;
 mod crosses;

@@ -5,7 +5,7 @@ ghost use Rattle.limits.specs.Walks.{walk_sum, after, byte_at, is_byte};
 use words::bytes::byte;
 
 // A sum, and whether each of its terms keeps its limit.
-#[derive(Drop)]
+#[derive(Clone, Copy)]
 pub struct Sum {
     pub fits: bool,
     pub total: usize,

@@ -1,4 +1,6 @@
 // The plan of a table's values and the table's lists, made once a call.
+#![tactic(auto)]
+
 mod rows;
 
 ghost use Rattle.std.specs.Prelude.{◌≡◌, true, ◌∷◌, ◌≤◌, ◌+◌, ◌*◌, length, take};

@@ -15,7 +15,7 @@ use ranges::next::{larger, less, next_pattern};
 use spans::lookup::free_value;
 
 // The lowest value of the point's type, two values of it, and how many parts the point has.
-#[derive(Drop)]
+#[derive(Clone, Copy)]
 pub struct Ask {
     pub low: u64,
     pub lo: u64,
@@ -73,7 +73,7 @@ fn meet_pattern(flags: &mut [u8], words: &[u64], at: usize, spans: &[u64], ask: 
 }
 
 // The first value from lo up that is left, and below what a span begins that reaches up to it: hi + 1, or 0 where that value is above hi.
-#[derive(Drop)]
+#[derive(Clone, Copy)]
 pub struct Reach {
     pub from: u64,
     pub end: u64,

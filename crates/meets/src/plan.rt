@@ -15,7 +15,7 @@ use values::points::lowest_at;
 use words::bytes::{byte, read2};
 
 // The lowest and the highest value of a point's type.
-#[derive(Drop)]
+#[derive(Clone, Copy)]
 pub struct Limits {
     pub low: u64,
     pub high: u64,
@@ -35,7 +35,7 @@ pub fn limits_of(t: &[u8], p: usize) -> Limits
 }
 
 // Two values of the type of a point, and how many parts the point has.
-#[derive(Drop)]
+#[derive(Clone, Copy)]
 pub struct Question {
     pub point: usize,
     pub parts: usize,

@@ -1,4 +1,6 @@
 // The parts (cover bins after expansion) of a point as rows.
+#![tactic(auto)]
+
 pub mod built;
 pub mod points;
 pub mod rows;

@@ -3,7 +3,7 @@ ghost use Rattle.std.specs.Prelude.{◌≡◌, [], ◌∷◌, ◌≤◌, ◌+◌
 ghost use Rattle.arrays.specs.Put.{put};
 
 // A span (kind 0) and its ends, or a pattern (kind 1), its bits and mask.
-#[derive(Drop)]
+#[derive(Clone, Copy)]
 pub struct Ends {
     pub kind: u64,
     pub low: u64,
@@ -11,7 +11,7 @@ pub struct Ends {
 }
 
 // A bin's first part, its last part (counted from the first) and its share.
-#[derive(Drop)]
+#[derive(Clone, Copy)]
 pub struct Deal {
     pub first: u64,
     pub last: u64,

@@ -43,7 +43,7 @@ fn put_words(out: &mut [u64], at: usize, words: &[u64]) -> usize
 }
 
 // Where a point's spans and its pieces begin, and where its plan ends.
-#[derive(Drop)]
+#[derive(Clone, Copy)]
 pub struct Ends {
     pub spans: usize,
     pub pieces: usize,
@@ -51,7 +51,7 @@ pub struct Ends {
 }
 
 // A point, and where its plan begins.
-#[derive(Drop)]
+#[derive(Clone, Copy)]
 pub struct Next {
     pub point: usize,
     pub at: usize,

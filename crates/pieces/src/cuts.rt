@@ -12,7 +12,7 @@ use ranges::next::{capped, less};
 use spans::lookup::free_value;
 
 // A row: kind (0: span), low end or bits, high end or mask, values listed before it in its bin, and its bin's first part, last part (counted from the first) and share.
-#[derive(Drop)]
+#[derive(Clone, Copy)]
 pub struct Row {
     pub kind: u64,
     pub low: u64,
@@ -50,7 +50,7 @@ fn put_piece(out: &mut [u64], at: usize, a: u64, b: u64, k: u64) -> usize
 }
 
 // A span of one part.
-#[derive(Drop)]
+#[derive(Clone, Copy)]
 pub struct Cut {
     pub low: u64,
     pub high: u64,
@@ -71,7 +71,7 @@ fn put_left(out: &mut [u64], at: usize, spans: &[u64], low: u64, c: Cut) -> usiz
 }
 
 // A span row with the parts of its first and of its last value, counted from the bin's first part.
-#[derive(Drop)]
+#[derive(Clone, Copy)]
 pub struct Cuts {
     pub lo: u64,
     pub hi: u64,

@@ -1,4 +1,6 @@
 // Lists of places, where few of many elements matter, and counts that are raised at them.
+#![tactic(auto)]
+
 pub mod raises;
 
 ghost use Rattle.std.specs.Prelude.{◌≡◌, ◌≤◌, ◌+◌, length, take};

@@ -14,7 +14,7 @@ use values::value::key_of;
 use words::bytes::byte;
 
 // The number of a point, and the code of its reading.
-#[derive(Drop)]
+#[derive(Clone, Copy)]
 pub struct PointReading {
     pub point: u8,
     pub code: u64,

@@ -51,7 +51,7 @@ fn matched(kind: u8, lost: u32, x: u32) -> bool
 }
 
 // What keeps a point's transition bins from being hit: its reading is skipped; its ignore and illegal bins take these lengths away.
-#[derive(Drop)]
+#[derive(Clone, Copy)]
 struct Exclusion {
     point: u8,
     skip: bool,

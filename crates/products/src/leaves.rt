@@ -27,7 +27,7 @@ fn put_named(leaves: &mut [u8], row: usize, lists: &[u16], from: usize, b: u16, 
 }
 
 // Where a token's row begins, where its cross's record stands, and where the token does.
-#[derive(Drop)]
+#[derive(Clone, Copy)]
 pub struct Token {
     pub row: usize,
     pub cross: usize,
@@ -67,7 +67,7 @@ fn put_row(leaves: &mut [u8], t: &[u8], plan: &[u64], lists: &[u16], k: Token, s
 }
 
 // Where the record of a bin's cross stands, where the bin's tokens begin, and how many they are.
-#[derive(Drop)]
+#[derive(Clone, Copy)]
 pub struct Tokens {
     pub cross: usize,
     pub at: usize,

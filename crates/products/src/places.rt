@@ -9,7 +9,7 @@ use crate::shapes::{Shape, inner_of, parts_at, sizes_of};
 use words::bytes::byte;
 
 // The cross's number, where its record stands, where its bins begin, and where their tokens begin.
-#[derive(Drop)]
+#[derive(Clone, Copy)]
 pub struct Place {
     pub number: usize,
     pub cross: usize,
@@ -18,7 +18,7 @@ pub struct Place {
 }
 
 // Where a cross stands, and its shape.
-#[derive(Drop)]
+#[derive(Clone, Copy)]
 pub struct Crossed {
     pub place: Place,
     pub shape: Shape,

@@ -11,7 +11,7 @@ use crate::value_at;
 use words::bytes::{byte, read8};
 
 // Values that stand in a row.
-#[derive(Drop)]
+#[derive(Clone, Copy)]
 pub struct Stretch {
     pub first: u64,
     pub last: u64,

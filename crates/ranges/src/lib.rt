@@ -1,4 +1,6 @@
 // Ranges of the table's bytes: the tests on a record's i64 fields in a point's type; below, membership, the next value, how many values there are, and what ignore and illegal bins take.
+#![tactic(auto)]
+
 pub mod counts;
 pub mod member;
 pub mod next;
@@ -44,7 +46,7 @@ pub fn lowest(width: u8, signed: bool) -> u64
 }
 
 // The lowest and the highest value of a type.
-#[derive(Drop)]
+#[derive(Clone, Copy)]
 struct Limits {
     low: u64,
     high: u64,
@@ -68,7 +70,7 @@ fn fits(l: Limits, v: u64) -> bool
 }
 
 // The tests on the ends of a span.
-#[derive(Drop)]
+#[derive(Clone, Copy)]
 struct EndTests {
     first: bool,
     last: bool,

@@ -1,4 +1,6 @@
 // The records of a section: where they lie in the table, and their bytes as they stand, without the count.
+#![tactic(auto)]
+
 ghost use Rattle.std.specs.Prelude.{◌≡◌, ◌+◌, ◌≤◌, ◌<◌, get_or};
 ghost use Rattle.model.specs.Format.{record_sizes};
 ghost use Rattle.model.specs.Raw.{count_place};
@@ -7,7 +9,7 @@ ghost use Rattle.reader.specs.Parts.{part_at, next_count, section_part, section_
 use words::bytes::read2;
 
 // A part of the table: the bytes from `from` up to, and without, `to`.
-#[derive(Drop)]
+#[derive(Clone, Copy)]
 pub struct Part {
     pub from: usize,
     pub to: usize,
@@ -25,7 +27,7 @@ pub fn part_at(table: &[u8], at: usize, size: usize) -> Part
 }
 
 // Document 01's reader, which holds the lent table and its place and walks it. The place is that of a section's count.
-#[derive(Drop)]
+#[derive(Clone, Copy)]
 pub struct Reader<'a> {
     pub table: &'a [u8],
     pub at: usize,

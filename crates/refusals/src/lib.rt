@@ -1,4 +1,6 @@
 // The refusals of a call, in order: a number, and 0 if no test fails.
+#![tactic(auto)]
+
 ghost use Rattle.std.specs.Prelude.{◌≡◌, cond, ◌+◌, ◌-◌, ◌^◌, ◌<◌, ◌≤◌, ltb, length, take, drop};
 ghost use Rattle.model.specs.Lists.{all};
 ghost use Rattle.model.specs.Register.{samples_of, reset, start, askCounter, askUnknown};

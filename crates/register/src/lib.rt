@@ -1,5 +1,7 @@
 // The calls on a register, but samples and figures: the table's bytes and the register's words as they are lent. Each answers with a refusal number, 0 if the call is
 // accepted; a refused call writes nothing.
+#![tactic(auto)]
+
 mod zeros;
 
 ghost use Rattle.std.specs.Prelude.{◌≡◌};
@@ -10,7 +12,7 @@ use refusals::{counter_refusal, reset_refusal, start_refusal, unknown_refusal};
 use table::facts;
 
 // A refusal number, and a count.
-#[derive(Drop)]
+#[derive(Clone, Copy)]
 pub struct Counted {
     pub number: u32,
     pub count: u32,

@@ -2,13 +2,15 @@
 ghost use Rattle.std.specs.Prelude.{◌≡◌, ◌+◌, ◌*◌, ◌≤◌, ◌<◌, length};
 ghost use Rattle.turns.specs.Batch.{batch};
 ghost use Rattle.turns.specs.Turns.{Took};
-ghost use Rattle.log.specs.Samples.{samples_in};
-ghost use Rattle.log.specs.Held.{Held, Onward};
+ghost use Rattle.sample_log.specs.Samples.{samples_in};
+ghost use Rattle.sample_log.specs.Held.{Held, Onward};
 
-use log::samples::{Block, block_of, put_samples};
-use log::{GOING, Log, OF_NO_KIND, REFUSED, at_end, have_bytes, new_log, outcome, past, stopped};
 use places::put_of_kind;
 use report::illegals::say_reports;
+use sample_log::samples::{Block, block_of, put_samples};
+use sample_log::{
+    GOING, Log, OF_NO_KIND, REFUSED, at_end, have_bytes, new_log, outcome, past, stopped,
+};
 use turns::Taken;
 use values::fields::word;
 use words::bytes::read4;

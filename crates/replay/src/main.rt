@@ -1,4 +1,6 @@
 // Replays a log of samples over a register and writes what it covered.
+#![tactic(auto)]
+
 mod entries;
 
 ghost use Rattle.std.specs.Prelude.{◌≡◌, true, ◌≤◌, length};
@@ -6,9 +8,9 @@ ghost use Rattle.model.specs.Format.{accepted};
 ghost use Rattle.table.specs.Check.{Few};
 
 use crate::entries::take_all;
-use log::{Log, UNREAD};
 use report::ending::say_ending;
 use report::say_report;
+use sample_log::{Log, UNREAD};
 use sampling::put_kinds;
 use streams::errors::cannot_read;
 use streams::files::fill;

@@ -27,7 +27,7 @@ pub fn say_owner(out: &mut [u8], item: usize, points: usize) {
 }
 
 // A place of a register: its count, and what the table says of it.
-#[derive(Drop)]
+#[derive(Clone, Copy)]
 struct Counter {
     place: usize,
     count: u32,

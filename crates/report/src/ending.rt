@@ -1,5 +1,5 @@
 // The last line.
-use log::{CUT, ENDED, Log, OF_NO_KIND, REFUSED};
+use sample_log::{CUT, ENDED, Log, OF_NO_KIND, REFUSED};
 use streams::out::say;
 use streams::text::{end_line, say_numbered, say_refusal};
 

@@ -1,4 +1,6 @@
 // The report on a register.
+#![tactic(auto)]
+
 mod counters;
 pub mod ending;
 pub mod illegals;

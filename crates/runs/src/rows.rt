@@ -99,7 +99,7 @@ fn put_sequence(plan: &mut [u64], at: usize, t: &[u8], p: usize, r: usize, n: us
 }
 
 // Where the next row goes, and where the next steps and step ranges begin in the table.
-#[derive(Drop)]
+#[derive(Clone, Copy)]
 pub struct Cursor {
     pub at: usize,
     pub steps: usize,

@@ -82,14 +82,14 @@ fn take_sequence(words: &mut [u32], shape: &[u64], ranges: &[u64], code: u64) ->
 }
 
 // Where the next row stands in the plan, and where its run words stand in the register.
-#[derive(Drop)]
+#[derive(Clone, Copy)]
 pub struct RowPlace {
     pub row: usize,
     pub words: usize,
 }
 
 // The lengths at which what was taken matches, and where the row and the run words after it begin.
-#[derive(Drop)]
+#[derive(Clone, Copy)]
 struct Taken {
     lengths: u32,
     next: RowPlace,
@@ -158,7 +158,7 @@ fn take_bin(
 }
 
 // Where the run words stand in the register, where the rows of the sequences stand in the plan, and how many transition bins there are.
-#[derive(Drop)]
+#[derive(Clone, Copy)]
 pub struct RunPlace {
     pub words: usize,
     pub rows: usize,

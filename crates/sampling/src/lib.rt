@@ -1,4 +1,6 @@
 // Flat arrays over all counters of an accepted table, in the register's order: what each counter is, what is in the total, whose item it is.
+#![tactic(auto)]
+
 pub mod planned;
 
 ghost use Rattle.std.specs.Prelude.{◌≡◌, true, ◌*◌, ◌≤◌, length};
@@ -21,7 +23,7 @@ use points::kinds::put_point_kinds;
 use points::spread::scatter;
 
 // Where each point's counters begin, how many cover bins it has, and how many points and counters there are.
-#[derive(Drop)]
+#[derive(Clone, Copy)]
 pub struct Index {
     pub starts: [u16; 17],
     pub counts: [u16; 16],

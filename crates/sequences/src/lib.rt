@@ -1,4 +1,6 @@
 // What a sample does to the run words of one sequence.
+#![tactic(auto)]
+
 ghost use Rattle.std.specs.Prelude.{◌≡◌, cond, List, ◌++◌, ◌+◌, ◌-◌, ◌≤◌, length, take, drop, replicate};
 ghost use Rattle.model.specs.Table.{Step};
 ghost use Rattle.model.specs.Sampling.{Reading, run_length, next_steps, matched_lengths};
@@ -7,7 +9,7 @@ ghost use Rattle.sequences.specs.Words.{step_words, complete_from, padded};
 ghost use Rattle.arrays.specs.Put.{put};
 
 // The run words of a sequence come first, one for each unit of its steps' mosts. The words after them are free.
-#[derive(Drop)]
+#[derive(Clone, Copy)]
 pub struct Run {
     pub words: [u32; 32],
 }

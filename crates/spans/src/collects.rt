@@ -15,7 +15,7 @@ use ranges::value_at;
 use words::bytes::{read2, read8};
 
 // Where the value bins begin, where their ranges do, and how many bins there are.
-#[derive(Drop)]
+#[derive(Clone, Copy)]
 pub struct Bins {
     pub bins: usize,
     pub ranges: usize,

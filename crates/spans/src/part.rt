@@ -8,7 +8,7 @@ use layout::bin_sections;
 use words::bytes::{byte, read2};
 
 // Of each point the value bins of the table from its first to its last one: where they begin, where their ranges do, and how many they are.
-#[derive(Drop)]
+#[derive(Clone, Copy)]
 pub struct Parts {
     pub bins: [u32; 16],
     pub ranges: [u32; 16],

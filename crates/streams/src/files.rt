@@ -13,7 +13,7 @@ pub fn least(a: usize, b: usize) -> usize
 }
 
 // How many bytes came, and whether a read failed.
-#[derive(Drop)]
+#[derive(Clone, Copy)]
 pub struct Filled {
     pub count: usize,
     pub failed: bool,

@@ -1,5 +1,5 @@
 // The refusal number; the words of a register and of a report, 0 and 0 if the table is refused; and the byte at fault, 0 if it is accepted.
-#[derive(Drop)]
+#[derive(Clone, Copy)]
 pub struct Measure {
     pub number: u32,
     pub words: u32,
@@ -9,7 +9,7 @@ pub struct Measure {
 
 // The refusal number and the byte at fault, 0 and 0 if the table is accepted; its points, counters, run words and illegal counters, all 0 if
 // it is refused.
-#[derive(Drop)]
+#[derive(Clone, Copy)]
 pub struct Facts {
     pub number: u32,
     pub place: usize,
@@ -20,7 +20,7 @@ pub struct Facts {
 }
 
 // The table's refusal number, and where a section's records stand in it.
-#[derive(Drop)]
+#[derive(Clone, Copy)]
 pub struct Place {
     pub refusal: u32,
     pub start: usize,

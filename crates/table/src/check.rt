@@ -18,7 +18,7 @@ use words::bytes::read2;
 use words::verdicts::{Verdict, fault, sound};
 
 // The table's verdict; and what it counts, if there is no fault.
-#[derive(Drop)]
+#[derive(Clone, Copy)]
 pub struct Examined {
     pub verdict: Verdict,
     pub tally: Tally,

@@ -1,4 +1,6 @@
 // A table's bytes: every byte string is checked, measured and asked for its sections.
+#![tactic(auto)]
+
 pub mod answer;
 pub mod check;
 

@@ -1,11 +1,13 @@
 // Totals and covered counters of items, by one pass over the counters.
+#![tactic(auto)]
+
 ghost use Rattle.std.specs.Prelude.{◌≡◌, ◌<◌, ◌≤◌, ◌+◌, length, take, drop, get_or};
 ghost use Rattle.tallies.specs.Tallies.{Tallied, ItemNumbers};
 
 use arrays::raised;
 
 // By the item's number: a table has at most 24 items.
-#[derive(Drop)]
+#[derive(Clone, Copy)]
 pub struct Tallies {
     pub totals: [u32; 24],
     pub covered: [u32; 24],

@@ -1,4 +1,6 @@
 // The samples of a batch, in turn, on a table and a register that passed their tests, by what was worked out of the table.
+#![tactic(auto)]
+
 ghost use Rattle.std.specs.Prelude.{◌≡◌, ◌≤◌, length};
 ghost use Rattle.model.specs.Format.{table_of};
 ghost use Rattle.model.specs.Register.{call, sample};
@@ -10,7 +12,7 @@ use refusals::own_refusal;
 use samples::write::write_planned;
 
 // The refusal number of the first refused sample, 0 if none is; and how many were taken before it.
-#[derive(Drop)]
+#[derive(Clone, Copy)]
 pub struct Taken {
     pub number: u32,
     pub taken: usize,

@@ -10,7 +10,7 @@ use Rattle.arrays.proofs.PutLaws.{front-put}
 use Rattle.turns.specs.declared.Taken.{Taken}
 use Rattle.turns.specs.Batch.{batch}
 use Rattle.turns.specs.Turns.{Took}
-use Rattle.log.specs.Samples.{samples_in}
+use Rattle.sample_log.specs.Samples.{samples_in}
 use Rattle.replay.proofs.BatchLaws.{batch-few}
 use Rattle.replay.proofs.entries.give_samples.Statement.{statement}
 use Rattle.replay.proofs.entries.give_samples.Tie as tie

@@ -3,7 +3,7 @@ use Prim.Native.Nat.{◌-◌}
 use native.Mathlib.Omega.{arith}
 use lib.ListN.{length}
 use borrow.Author.Rules.{rules}
-use Rattle.log.specs.Held.{Held}
+use Rattle.sample_log.specs.Held.{Held}
 use Rattle.replay.proofs.entries.take_entries.Statement.{statement}
 use Rattle.replay.proofs.entries.take_entries.Tie as tie
 

@@ -1,8 +1,8 @@
 use mathlib.Core.Path.{sym, ◌∙◌}
 use native.Mathlib.Omega.{arith}
 use borrow.Author.Rules.{rules}
-use Rattle.log.proofs.have_bytes.Statement.{statement}
-use Rattle.log.proofs.have_bytes.Tie as tie
+use Rattle.sample_log.proofs.have_bytes.Statement.{statement}
+use Rattle.sample_log.proofs.have_bytes.Tie as tie
 
 sub-if1 : tie.Need-overflow-sub-if1
 sub-if1 c = search rules

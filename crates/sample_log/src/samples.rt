@@ -3,7 +3,7 @@ ghost use Rattle.std.specs.Prelude.{◌≡◌, ◌+◌, ◌*◌, ◌≤◌, ◌<
 ghost use Rattle.model.specs.Format.{u32};
 ghost use Rattle.model.specs.Raw.{rows};
 ghost use Rattle.arrays.specs.Put.{put};
-ghost use Rattle.log.specs.Samples.{samples_in, block_count};
+ghost use Rattle.sample_log.specs.Samples.{samples_in, block_count};
 
 use words::bytes::read4;
 
@@ -13,7 +13,7 @@ const BLOCK: usize = 256;
 const REPORTS: usize = 12416;
 
 // Samples in a row: how many, and how many bytes.
-#[derive(Drop)]
+#[derive(Clone, Copy)]
 pub struct Block {
     pub count: usize,
     pub size: usize,

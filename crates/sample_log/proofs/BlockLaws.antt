@@ -10,7 +10,7 @@ use lib.ListN.{length}
 use borrow.Author.Tests.{le-leb, lt-leb, eq-eqb, ne_eqb}
 use Rattle.model.specs.Format.{u32}
 use Rattle.model.proofs.Lists.{one_left}
-use Rattle.log.specs.Samples.{whole_from}
+use Rattle.sample_log.specs.Samples.{whole_from}
 
 pub size-turn : (count size one : ℕ) → size ≡ count * one → size + one ≡ (count + 1) * one
 size-turn count size one e = rw (add-one count, suc-mul count one, e)

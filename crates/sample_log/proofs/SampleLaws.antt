@@ -11,7 +11,7 @@ use Rattle.model.proofs.Lists.{one_left, none_left}
 use Rattle.model.proofs.RawLaws.{length-rows}
 use Rattle.arrays.specs.Put.{put}
 use Rattle.arrays.proofs.PutLaws.{put-nil, put_next}
-use Rattle.log.specs.Samples.{samples_from}
+use Rattle.sample_log.specs.Samples.{samples_from}
 
 module _ (points count : ℕ) (s : List ℕ) where
   turn : (i from : ℕ) → i < count → samples_from points (count - i) s from ≡ rows (u32 s) 4 (from + 4) (4 + 2 * points) ++ samples_from points (count - (i + 1)) s (from + 4 + 4 * (4 + 2 * points))

@@ -8,8 +8,8 @@ use Rattle.model.specs.Raw.{rows}
 use Rattle.model.proofs.RawLaws.{rows_turn, rows_start, rows_end}
 use Rattle.arrays.specs.Put.{put}
 use Rattle.arrays.proofs.PutLaws.{put-nil, put-cons}
-use Rattle.log.proofs.samples.put_words.Statement.{statement}
-use Rattle.log.proofs.samples.put_words.Tie as tie
+use Rattle.sample_log.proofs.samples.put_words.Statement.{statement}
+use Rattle.sample_log.proofs.samples.put_words.Tie as tie
 
 abbrev invariant-loop : tie.invariant-loop
 invariant-loop words₀ at bytes from n i₀ words i = (i ≤ n) × (length words ≡ length words₀) × (put (at + i) (rows (u32 bytes) 4 (from + 4 * i) (n - i)) words ≡ put at (rows (u32 bytes) 4 from n) words₀)

@@ -1,7 +1,7 @@
 -- What is known of a log between two of its entries.
 -- Assumes nothing.
 use Rattle.std.specs.Prelude.{ℕ, ◌+◌, ◌≤◌, ◌<◌, ◌≡◌}
-use Rattle.log.specs.declared.Log.{Log}
+use Rattle.sample_log.specs.declared.Log.{Log}
 
 -- the log's bytes stand in order within a buffer of n bytes
 pub record Held (log : Log) (n : ℕ) : Type 0 where

@@ -2,10 +2,10 @@ use mathlib.Core.Path.{◌≡◌, refl, sym, ◌∙◌}
 use Prim.Native.Nat.{◌+◌, ◌-◌, ◌*◌, ◌≤◌, ◌<◌}
 use native.Mathlib.Omega.{arith}
 use lib.ListN.{length}
-use Rattle.log.specs.Samples.{whole_from, block_count}
-use Rattle.log.proofs.BlockLaws.{size-turn, block_turn, block_enough, block_short, block_full, block_other}
-use Rattle.log.proofs.samples.block_of.Statement.{statement}
-use Rattle.log.proofs.samples.block_of.Tie as tie
+use Rattle.sample_log.specs.Samples.{whole_from, block_count}
+use Rattle.sample_log.proofs.BlockLaws.{size-turn, block_turn, block_enough, block_short, block_full, block_other}
+use Rattle.sample_log.proofs.samples.block_of.Statement.{statement}
+use Rattle.sample_log.proofs.samples.block_of.Tie as tie
 
 abbrev invariant-loop : tie.invariant-loop
 invariant-loop bytes points illegals one count₀ size₀ words₀ count size words = (0 < count) × (count ≤ 256) × (size ≤ length bytes) × (size ≤ 148 * count) × (words ≤ 12416) × (size ≡ count * (20 + 8 * points)) × (count + whole_from (20 + 8 * points) illegals bytes (256 - count) (12416 - words) size ≡ block_count points illegals bytes)

@@ -3,10 +3,10 @@ use Prim.Native.Nat.{◌+◌, ◌-◌, ◌*◌, ◌≤◌}
 use native.Mathlib.Omega.{arith}
 use lib.ListN.{length}
 use Rattle.arrays.specs.Put.{put}
-use Rattle.log.specs.Samples.{samples_from}
-use Rattle.log.proofs.SampleLaws.{samples_start, samples_turn, samples_end}
-use Rattle.log.proofs.samples.put_samples.Statement.{statement}
-use Rattle.log.proofs.samples.put_samples.Tie as tie
+use Rattle.sample_log.specs.Samples.{samples_from}
+use Rattle.sample_log.proofs.SampleLaws.{samples_start, samples_turn, samples_end}
+use Rattle.sample_log.proofs.samples.put_samples.Statement.{statement}
+use Rattle.sample_log.proofs.samples.put_samples.Tie as tie
 
 abbrev invariant-loop : tie.invariant-loop
 invariant-loop words₀ bytes points count n at₀ from₀ i₀ words at from i = (i ≤ count) × (at ≤ 36 * i) × (from ≤ 148 * i) × (length words ≡ length words₀) × (at + length (samples_from points (count - i) bytes from) ≡ length (samples_from points count bytes 0)) × (put at (samples_from points (count - i) bytes from) words ≡ put 0 (samples_from points count bytes 0) words₀)

@@ -1,8 +1,10 @@
 // A log as it is read: how it stands between its entries, and its samples.
+#![tactic(auto)]
+
 pub mod samples;
 
 ghost use Rattle.std.specs.Prelude.{◌≡◌, ◌+◌, ◌≤◌, ◌<◌, length};
-ghost use Rattle.log.specs.Held.{Held, Kept, Onward, Standing};
+ghost use Rattle.sample_log.specs.Held.{Held, Kept, Onward, Standing};
 
 use streams::files::{Filled, fill, to_front};
 
@@ -20,7 +22,7 @@ pub const REFUSED: u8 = 4;
 pub const OF_NO_KIND: u8 = 5;
 
 // A log as it is taken.
-#[derive(Drop)]
+#[derive(Clone, Copy)]
 pub struct Log {
     pub fd: i32,
     // The points of its samples, and the illegal places.
