@@ -18,7 +18,7 @@ use Rattle.model.proofs.Access.{bins_access}
 use Rattle.model.proofs.WellFormed.{GoodPoint, well-formed}
 use Rattle.model.proofs.TableExact.{point_at_lem, pow_half}
 use Rattle.model.proofs.RawLaws.{length-rows}
-use Rattle.model.proofs.RawExact.{next_place, raw-exact, sections-whole}
+use Rattle.model.proofs.RawExact.{next_place_lem, raw-exact, sections-whole}
 use Rattle.model.proofs.RawValues.{length-bins}
 use Rattle.ranges.specs.Types.{Wide}
 use Rattle.values.specs.Points.{Near}
@@ -49,16 +49,16 @@ module _ (s : List ℕ) (t : Table) (e : decode s ≡ decoded t) (p : ℕ) (insi
   all_near =
       let a = acceptance s t e in
       let whole = sections-whole s t e in
-      let p₀ = next_place s 0 11 refl in
-      let p₁ = next_place s 1 8 refl in
-      let p₂ = next_place s 2 17 refl in
-      let p₃ = next_place s 3 4 refl in
-      let p₄ = next_place s 4 1 refl in
-      let p₅ = next_place s 5 3 refl in
-      let p₆ = next_place s 6 17 refl in
-      let p₇ = next_place s 7 13 refl in
-      let p₈ = next_place s 8 3 refl in
-      let p₉ = next_place s 9 20 refl in
+      let p₀ = next_place_lem s 0 11 refl in
+      let p₁ = next_place_lem s 1 8 refl in
+      let p₂ = next_place_lem s 2 17 refl in
+      let p₃ = next_place_lem s 3 4 refl in
+      let p₄ = next_place_lem s 4 1 refl in
+      let p₅ = next_place_lem s 5 3 refl in
+      let p₆ = next_place_lem s 6 17 refl in
+      let p₇ = next_place_lem s 7 13 refl in
+      let p₈ = next_place_lem s 8 3 refl in
+      let p₉ = next_place_lem s 9 20 refl in
       let top : count_place s 4 ≤ 65536 = omega (arith, a.short) in
       record {
         point_near = omega (arith, many);
