@@ -14,7 +14,7 @@ use Rattle.model.proofs.Sections.{acceptance}
 use Rattle.model.proofs.AccessCrosses.{one-expression}
 use Rattle.model.proofs.RawLaws.{says-times}
 use Rattle.model.proofs.RawCrosses.{select_of, cross_of_lem, crosses_raw, cross-bins_raw, cross_bins_from, tokens_from}
-use Rattle.model.proofs.RawExact.{next_place, points_placed, bins_placed, ranges_placed, transitions_placed}
+use Rattle.model.proofs.RawExact.{next_place_lem, points_placed, bins_placed, ranges_placed, transitions_placed}
 use Rattle.products.specs.Single.{Single, BinsSingle, CrossesSingle}
 
 one_found : (o : Option (List Select)) (e : Select) → o ≡ some (e ∷ []) → o ≡ some (only_of o ∷ [])
@@ -96,4 +96,4 @@ accepted-single s t e =
     let a₃ = ranges_placed s ps bs n₃ (ap₂ (read_range_section s ps) (sym a₂.0) (sym a₂.1) ∙ e₃) in
     let a₄ = transitions_placed s ps ts n₄ (ap (read_transition_bins s ps) (sym a₃.1) ∙ e₄) in
     let found = read_single s ps hs (count_place s 7) cs n₅ (ap (read_crosses s ps hs) (sym a₄.1) ∙ e₅) in
-    rw (next_place s 7 13 refl, next_place s 8 3 refl) at found
+    rw (next_place_lem s 7 13 refl, next_place_lem s 8 3 refl) at found

@@ -11,7 +11,7 @@ use Rattle.model.specs.Table.{Step, TransitionBin, Table}
 use Rattle.model.specs.Format.{u16, accepted, table_of}
 use Rattle.model.specs.Raw.{count_place, record_count}
 use Rattle.model.proofs.Access.{points_access, bins_access, ranges_access}
-use Rattle.model.proofs.RawExact.{next_place}
+use Rattle.model.proofs.RawExact.{next_place_lem}
 use Rattle.model.proofs.AccessTransitions.{ranges_in, bin_ranges_in, steps_in, transitions_access, sequences_access, steps_access, step_ranges_access}
 use Rattle.runs.specs.Rows.{sequence_row, bin_row, sequence_rows}
 use Rattle.runs.proofs.RowLaws.{length-row}
@@ -56,10 +56,10 @@ rows-counted s e =
     let sequences = sequences_access s t (length s) l in
     let steps = steps_access s t (length s) l in
     let start : count_place s 0 ≡ 0 = unfold count_place in refl in
-    let first : l.next₂ ≡ count_place s 1 = omega (arith, points.0.said, points.0.begins, points.1, ap (u16 s) start, start, next_place s 0 11 refl) in
-    let second : l.next₃ ≡ count_place s 2 = omega (arith, bins.0.said, bins.0.begins, bins.1, ap (u16 s) first, first, next_place s 1 8 refl) in
-    let third : l.next₄ ≡ count_place s 3 = omega (arith, ranges.0.said, ranges.0.begins, ranges.1, ap (u16 s) second, second, next_place s 2 17 refl) in
-    let fourth : l.next₅ ≡ count_place s 4 = omega (arith, transitions.0.said, transitions.0.begins, transitions.1, ap (u16 s) third, third, next_place s 3 4 refl) in
-    let fifth : l.next₆ ≡ count_place s 5 = omega (arith, sequences.0.said, sequences.0.begins, sequences.1, ap (u16 s) fourth, fourth, next_place s 4 1 refl) in
-    let sixth : l.next₇ ≡ count_place s 6 = omega (arith, steps.0.said, steps.0.begins, steps.1, ap (u16 s) fifth, fifth, next_place s 5 3 refl) in
+    let first : l.next₂ ≡ count_place s 1 = omega (arith, points.0.said, points.0.begins, points.1, ap (u16 s) start, start, next_place_lem s 0 11 refl) in
+    let second : l.next₃ ≡ count_place s 2 = omega (arith, bins.0.said, bins.0.begins, bins.1, ap (u16 s) first, first, next_place_lem s 1 8 refl) in
+    let third : l.next₄ ≡ count_place s 3 = omega (arith, ranges.0.said, ranges.0.begins, ranges.1, ap (u16 s) second, second, next_place_lem s 2 17 refl) in
+    let fourth : l.next₅ ≡ count_place s 4 = omega (arith, transitions.0.said, transitions.0.begins, transitions.1, ap (u16 s) third, third, next_place_lem s 3 4 refl) in
+    let fifth : l.next₆ ≡ count_place s 5 = omega (arith, sequences.0.said, sequences.0.begins, sequences.1, ap (u16 s) fourth, fourth, next_place_lem s 4 1 refl) in
+    let sixth : l.next₇ ≡ count_place s 6 = omega (arith, steps.0.said, steps.0.begins, steps.1, ap (u16 s) fifth, fifth, next_place_lem s 5 3 refl) in
     omega (arith, rows-length t, transitions.0.said, ap (u16 s) third, sequences.0.said, ap (u16 s) fourth, steps.0.said, ap (u16 s) fifth, (step_ranges_access s t (length s) l).0.said, ap (u16 s) sixth)

@@ -23,7 +23,7 @@ use Rattle.model.proofs.WellFormed.{Legal, GoodBin, WellFormed, layout_well-form
 use Rattle.model.proofs.TableExact.{point_at_lem}
 use Rattle.model.proofs.Sections.{acceptance, accepted_decodes, accepted-layout}
 use Rattle.model.proofs.Access.{bins_access}
-use Rattle.model.proofs.RawExact.{accepted_raw, next_place, sections-whole}
+use Rattle.model.proofs.RawExact.{accepted_raw, next_place_lem, sections-whole}
 use Rattle.model.proofs.RawValues.{length-bins}
 use Rattle.ranges.specs.Taken.{holding, taken_by, excluded_at}
 use Rattle.ranges.proofs.MemberLaws.{in-any}
@@ -108,15 +108,15 @@ module _ (s : List ℕ) (ok : accepted s ≡ true) (p : ℕ) where
   accepted_collectable room h =
       let a = acceptance s (table_of s) (accepted_decodes s ok) in
       let whole = sections-whole s (table_of s) (accepted_decodes s ok) in
-      let p₁ = next_place s 1 8 refl in
-      let p₂ = next_place s 2 17 refl in
-      let p₃ = next_place s 3 4 refl in
-      let p₄ = next_place s 4 1 refl in
-      let p₅ = next_place s 5 3 refl in
-      let p₆ = next_place s 6 17 refl in
-      let p₇ = next_place s 7 13 refl in
-      let p₈ = next_place s 8 3 refl in
-      let p₉ = next_place s 9 20 refl in
+      let p₁ = next_place_lem s 1 8 refl in
+      let p₂ = next_place_lem s 2 17 refl in
+      let p₃ = next_place_lem s 3 4 refl in
+      let p₄ = next_place_lem s 4 1 refl in
+      let p₅ = next_place_lem s 5 3 refl in
+      let p₆ = next_place_lem s 6 17 refl in
+      let p₇ = next_place_lem s 7 13 refl in
+      let p₈ = next_place_lem s 8 3 refl in
+      let p₉ = next_place_lem s 9 20 refl in
       let top : count_place s 3 ≤ 65536 = omega (arith, a.short) in
       record {
         near = omega arith;

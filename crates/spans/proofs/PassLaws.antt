@@ -13,7 +13,7 @@ use Rattle.model.specs.Format.{byte, u16, bin_rules, accepted, table_of}
 use Rattle.model.specs.Raw.{count_place, records_place, record_count}
 use Rattle.model.proofs.Sections.{accepted-layout}
 use Rattle.model.proofs.Access.{points_access, bins_access}
-use Rattle.model.proofs.RawExact.{next_place, few_points}
+use Rattle.model.proofs.RawExact.{next_place_lem, few_points}
 use Rattle.layout.specs.Places.{layout_of, bin_sections_of, SmallBins}
 use Rattle.layout.specs.declared.BinSections.{BinSections}
 use Rattle.spans.specs.Part.{Other, OthersFrom, OthersTo, ranges_past, PartOf, OwnBins, OwnParts, kept, part_of}
@@ -172,7 +172,7 @@ module _ (s : List ℕ) (ok : accepted s ≡ true) where
       let points = points_access s (table_of s) (length s) l in
       let bins = bins_access s (table_of s) (length s) l in
       let start : count_place s 0 ≡ 0 = unfold count_place in refl in
-      let first : l.next₂ ≡ count_place s 1 = omega (arith, points.0.said, points.0.begins, points.1, ap (u16 s) start, start, next_place s 0 11 refl) in
+      let first : l.next₂ ≡ count_place s 1 = omega (arith, points.0.said, points.0.begins, points.1, ap (u16 s) start, start, next_place_lem s 0 11 refl) in
       let z : records_place s 1 + 8 * i ≡ l.at₂ + i * 8 = omega (arith, bins.0.begins, first) in
       omega (arith, ltb-true (byte s (l.at₂ + i * 8)) (length (table_of s).points) (bins.2 i (omega (arith, bins_many s ok))).passed.0, few_points s ok, ap (byte s) z)
 

@@ -18,7 +18,7 @@ use Rattle.model.specs.Raw.{count_place, records_place, record_count}
 use Rattle.model.proofs.Booleans.{false-true}
 use Rattle.model.proofs.Sections.{accepted-layout}
 use Rattle.model.proofs.Access.{points_access, bins_access, ranges_access}
-use Rattle.model.proofs.RawExact.{next_place}
+use Rattle.model.proofs.RawExact.{next_place_lem}
 use Rattle.model.proofs.RawValues.{length-bins}
 use Rattle.ranges.specs.Taken.{excluded_at}
 use Rattle.spans.specs.Spans.{held_by, free, Settled, Least}
@@ -145,8 +145,8 @@ module _ (s : List ℕ) (ok : accepted s ≡ true) where
       let bins = bins_access s (table_of s) (length s) l in
       let ranges = ranges_access s (table_of s) (length s) l in
       let start : count_place s 0 ≡ 0 = unfold count_place in refl in
-      let first : l.next₂ ≡ count_place s 1 = omega (arith, points.0.said, points.0.begins, points.1, ap (u16 s) start, start, next_place s 0 11 refl) in
-      let second : l.next₃ ≡ count_place s 2 = omega (arith, bins.0.said, bins.0.begins, bins.1, ap (u16 s) first, first, next_place s 1 8 refl) in
+      let first : l.next₂ ≡ count_place s 1 = omega (arith, points.0.said, points.0.begins, points.1, ap (u16 s) start, start, next_place_lem s 0 11 refl) in
+      let second : l.next₃ ≡ count_place s 2 = omega (arith, bins.0.said, bins.0.begins, bins.1, ap (u16 s) first, first, next_place_lem s 1 8 refl) in
       sym (ap (u16 s) (sym second) ∙ ranges.0.said)
 
   pub bins_most : record_count s 1 ≤ 512
