@@ -8,14 +8,5 @@ next-j-requires c =
 
 pub returns : goal.returns
 returns c =
-    laid
-    c.section_at-a.ensures
-    c.next-b.ensures
-    c.next-c.ensures
-    c.next-d.ensures
-    c.next-e.ensures
-    c.next-f.ensures
-    c.next-g.ensures
-    c.next-h.ensures
-    c.next-i.ensures
-    c.next-j.ensures
+    let placed = laid c.section_at-a.ensures c.next-b.ensures c.next-c.ensures c.next-d.ensures c.next-e.ensures c.next-f.ensures c.next-g.ensures c.next-h.ensures c.next-i.ensures c.next-j.ensures in
+    record { value = placed.0; small = placed.1 }
