@@ -1,0 +1,5 @@
+use Rattle.check_tokens.proofs.TokenLaws.{cover-bin}
+use Rattle.check_tokens.proofs.tokens.cover_bin.Goals as goal
+
+pub returns : goal.returns
+returns c = rw (cover-bin, c.byte-kind.ensures, c.byte-point.ensures)
