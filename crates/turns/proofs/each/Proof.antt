@@ -69,7 +69,7 @@ sub-one-2 c =
     let v = c.before.before.before.before.before.before.before.before.before.before.before.before.before.before.args.s.now in
     let l = c.before.before.before.before.loop in
     let h = c.before.before.before.loop-test.true in
-    let cut = cut_for c.before.before.before.before.before.before.before.before.before.before.before.before.before.before.args.t.now v _ n.0 _ _ h c.before.before.end_of_lem.ensures in
+    let cut = cut_for c.before.before.before.before.before.before.before.before.before.before.before.before.before.before.args.t.now v _ n.0 _ _ h c.before.before.end_of.ensures in
     omega (arith, cut.after, cut.within)
 
 part-one-start-2 : tie.Need-slice-bounds-one-start-2 invariant-loop decreases-loop
@@ -81,7 +81,7 @@ part-one-start-2 c =
     let v = c.before.before.before.before.before.before.before.before.before.before.before.before.before.before.args.s.now in
     let l = c.before.before.before.before.loop in
     let h = c.before.before.before.loop-test.true in
-    let cut = cut_for c.before.before.before.before.before.before.before.before.before.before.before.before.before.before.args.t.now v _ n.0 _ _ h c.before.before.end_of_lem.ensures in
+    let cut = cut_for c.before.before.before.before.before.before.before.before.before.before.before.before.before.before.args.t.now v _ n.0 _ _ h c.before.before.end_of.ensures in
     omega (arith, cut.after, cut.within)
 
 part-one-end-2 : tie.Need-slice-bounds-one-end-2 invariant-loop decreases-loop
@@ -93,7 +93,7 @@ part-one-end-2 c =
     let v = c.before.before.before.before.before.before.before.before.before.before.before.before.before.before.args.s.now in
     let l = c.before.before.before.before.loop in
     let h = c.before.before.before.loop-test.true in
-    let cut = cut_for c.before.before.before.before.before.before.before.before.before.before.before.before.before.before.args.t.now v _ n.0 _ _ h c.before.before.end_of_lem.ensures in
+    let cut = cut_for c.before.before.before.before.before.before.before.before.before.before.before.before.before.before.args.t.now v _ n.0 _ _ h c.before.before.end_of.ensures in
     omega (arith, cut.after, cut.within)
 
 one-requires : tie.Need-one-requires invariant-loop decreases-loop
@@ -123,7 +123,7 @@ returns c =
     let v = c.before.before.before.before.before.before.before.before.before.before.before.before.before.before.before.before.before.before.before.before.before.before.before.before.args.s.now in
     let l = c.before.before.before.before.before.before.before.before.before.before.before.before.before.before.loop in
     let h = c.before.before.before.before.before.before.before.before.before.before.before.before.before.loop-test.true in
-    let cut = cut_for c.before.before.before.before.before.before.before.before.before.before.before.before.before.before.before.before.before.before.before.before.before.before.before.before.args.t.now v _ n.0 _ _ h c.before.before.before.before.before.before.before.before.before.before.before.before.end_of_lem.ensures in
+    let cut = cut_for c.before.before.before.before.before.before.before.before.before.before.before.before.before.before.before.before.before.before.before.before.before.before.before.before.args.t.now v _ n.0 _ _ h c.before.before.before.before.before.before.before.before.before.before.before.before.end_of.ensures in
     let q = c.before.before.before.before.before.before.before.one in
     let d = part-done _ _ v l.reports l.a _ l.k _ _ q.new.1.0 _ l.invariant.0.written q.ensures refl in
     going-stop _ v _ _ _ _ _ _ _ l.invariant.0 h _ cut _ _ _ d c.if1.true
@@ -137,7 +137,7 @@ add-k c =
     let v = c.before.before.before.before.before.before.before.before.before.before.before.before.before.before.before.before.before.before.before.before.before.before.before.before.args.s.now in
     let l = c.before.before.before.before.before.before.before.before.before.before.before.before.before.before.loop in
     let h = c.before.before.before.before.before.before.before.before.before.before.before.before.before.loop-test.true in
-    let cut = cut_for c.before.before.before.before.before.before.before.before.before.before.before.before.before.before.before.before.before.before.before.before.before.before.before.before.args.t.now v _ n.0 _ _ h c.before.before.before.before.before.before.before.before.before.before.before.before.end_of_lem.ensures in
+    let cut = cut_for c.before.before.before.before.before.before.before.before.before.before.before.before.before.before.before.before.before.before.before.before.before.before.before.before.args.t.now v _ n.0 _ _ h c.before.before.before.before.before.before.before.before.before.before.before.before.end_of.ensures in
     let q = c.before.before.before.before.before.before.before.one in
     let d = part-done _ _ v l.reports l.a _ l.k _ _ q.new.1.0 _ l.invariant.0.written q.ensures refl in
     omega (arith, going-room _ v _ _ _ _ _ _ _ l.invariant.0 h _ cut _ _ _ d c.if1.false x.result n.1, l.invariant.2, c.before.before.before.before.before.before.before.before.before.before.before.before.before.before.before.before.before.before.before.before.before.before.before.before.well-formed.1.0)
@@ -154,7 +154,7 @@ loop-less c =
     let v = c.before.before.before.before.before.before.before.before.before.before.before.before.before.before.before.before.before.before.before.before.before.before.before.before.args.s.now in
     let l = c.before.before.before.before.before.before.before.before.before.before.before.before.before.before.loop in
     let h = c.before.before.before.before.before.before.before.before.before.before.before.before.before.loop-test.true in
-    let cut = cut_for c.before.before.before.before.before.before.before.before.before.before.before.before.before.before.before.before.before.before.before.before.before.before.before.before.args.t.now v _ n.0 _ _ h c.before.before.before.before.before.before.before.before.before.before.before.before.end_of_lem.ensures in
+    let cut = cut_for c.before.before.before.before.before.before.before.before.before.before.before.before.before.before.before.before.before.before.before.before.before.before.before.before.args.t.now v _ n.0 _ _ h c.before.before.before.before.before.before.before.before.before.before.before.before.end_of.ensures in
     omega (arith, cut.after, cut.within)
 
 loop-again : tie.Need-loop-preserved invariant-loop decreases-loop
@@ -166,7 +166,7 @@ loop-again c =
     let v = c.before.before.before.before.before.before.before.before.before.before.before.before.before.before.before.before.before.before.before.before.before.before.before.before.args.s.now in
     let l = c.before.before.before.before.before.before.before.before.before.before.before.before.before.before.loop in
     let h = c.before.before.before.before.before.before.before.before.before.before.before.before.before.loop-test.true in
-    let cut = cut_for c.before.before.before.before.before.before.before.before.before.before.before.before.before.before.before.before.before.before.before.before.before.before.before.before.args.t.now v _ n.0 _ _ h c.before.before.before.before.before.before.before.before.before.before.before.before.end_of_lem.ensures in
+    let cut = cut_for c.before.before.before.before.before.before.before.before.before.before.before.before.before.before.before.before.before.before.before.before.before.before.before.before.args.t.now v _ n.0 _ _ h c.before.before.before.before.before.before.before.before.before.before.before.before.end_of.ensures in
     let q = c.before.before.before.before.before.before.before.one in
     let d = part-done _ _ v l.reports l.a _ l.k _ _ q.new.1.0 _ l.invariant.0.written q.ensures refl in
     let kept = same_len_mid l.k (length l.reports - l.k) l.reports q.new.1.0 q.auto.1.0 in

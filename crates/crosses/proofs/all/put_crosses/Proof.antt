@@ -84,7 +84,7 @@ put-hits-requires c κs =
     let i = l.invariant in
     let h = c.before.before.loop-test.true in
     let stands = nth-stands s pre.0.0 l.c l.p (omega (arith, h, i.1)) i.2 in
-    let fits = c.before.shape_of_lem.ensures in
+    let fits = c.before.shape_of.ensures in
     (stands, fits, omega (arith, i.4, fits.whole.small))
 
 slice-aggregate-put-cross : tie.Need-slice-aggregate-put-cross invariant-loop decreases-loop
@@ -99,8 +99,8 @@ mul-put-cross c =
     let l = c.before.before.before.before.before.before.before.loop in
     let i = l.invariant in
     let h = c.before.before.before.before.before.before.loop-test.true in
-    let fits = c.before.before.before.before.before.shape_of_lem.ensures in
-    let size = c.before.before.before.before.before.shape_of_lem.result.total in
+    let fits = c.before.before.before.before.before.shape_of.ensures in
+    let size = c.before.before.before.before.before.shape_of.result.total in
     let here : Here t l.c l.base size = record { inside = omega (arith, h, i.1); start = i.5; many = fits.products ∙ ap (product_count t) i.2.number } in
     omega (arith, marks_small s pre.0.0 l.c l.base size here)
 
@@ -113,8 +113,8 @@ sub-put-cross c =
     let l = c.before.before.before.before.before.before.before.loop in
     let i = l.invariant in
     let h = c.before.before.before.before.before.before.loop-test.true in
-    let fits = c.before.before.before.before.before.shape_of_lem.ensures in
-    let size = c.before.before.before.before.before.shape_of_lem.result.total in
+    let fits = c.before.before.before.before.before.shape_of.ensures in
+    let size = c.before.before.before.before.before.shape_of.result.total in
     let here : Here t l.c l.base size = record { inside = omega (arith, h, i.1); start = i.5; many = fits.products ∙ ap (product_count t) i.2.number } in
     omega (arith, marks-room t l.c l.base size here a.marks.now pre.1.0)
 
@@ -127,8 +127,8 @@ part-put-cross-start c =
     let l = c.before.before.before.before.before.before.before.loop in
     let i = l.invariant in
     let h = c.before.before.before.before.before.before.loop-test.true in
-    let fits = c.before.before.before.before.before.shape_of_lem.ensures in
-    let size = c.before.before.before.before.before.shape_of_lem.result.total in
+    let fits = c.before.before.before.before.before.shape_of.ensures in
+    let size = c.before.before.before.before.before.shape_of.result.total in
     let here : Here t l.c l.base size = record { inside = omega (arith, h, i.1); start = i.5; many = fits.products ∙ ap (product_count t) i.2.number } in
     omega (arith, marks-room t l.c l.base size here a.marks.now pre.1.0)
 
@@ -146,8 +146,8 @@ put-cross-requires c κs =
     let h = c.before.before.before.before.before.before.before.loop-test.true in
     let n = c.before.before.before.before.before.before.before.before.before.before.layout_of.result.cross_count in
     let stands = nth-stands s pre.0.0 l.c l.p (omega (arith, h, i.1)) i.2 in
-    let fits = c.before.before.before.before.before.before.shape_of_lem.ensures in
-    let size = c.before.before.before.before.before.before.shape_of_lem.result.total in
+    let fits = c.before.before.before.before.before.before.shape_of.ensures in
+    let size = c.before.before.before.before.before.before.shape_of.result.total in
     let here : Here t l.c l.base size = record { inside = omega (arith, h, i.1); start = i.5; many = fits.products ∙ ap (product_count t) i.2.number } in
     let hits = c.before.before.before.before.put-hits in
     let marks = take (length a.marks.now - l.base) (drop l.base a.marks.now) in
@@ -167,8 +167,8 @@ add-base c =
     let l = c.before.before.before.before.before.before.before.before.before.before.before.before.loop in
     let i = l.invariant in
     let h = c.before.before.before.before.before.before.before.before.before.before.before.loop-test.true in
-    let fits = c.before.before.before.before.before.before.before.before.before.before.shape_of_lem.ensures in
-    let size = c.before.before.before.before.before.before.before.before.before.before.shape_of_lem.result.total in
+    let fits = c.before.before.before.before.before.before.before.before.before.before.shape_of.ensures in
+    let size = c.before.before.before.before.before.before.before.before.before.before.shape_of.result.total in
     let here : Here t l.c l.base size = record { inside = omega (arith, h, i.1); start = i.5; many = fits.products ∙ ap (product_count t) i.2.number } in
     omega (arith, marks_small s pre.0.0 l.c l.base size here)
 
@@ -200,8 +200,8 @@ loop-again c =
     let h = c.before.before.before.before.before.before.before.before.before.before.before.before.loop-test.true in
     let n = c.before.before.before.before.before.before.before.before.before.before.before.before.before.before.before.layout_of.result.cross_count in
     let stands = nth-stands s pre.0.0 l.c l.p (omega (arith, h, i.1)) i.2 in
-    let fits = c.before.before.before.before.before.before.before.before.before.before.before.shape_of_lem.ensures in
-    let size = c.before.before.before.before.before.before.before.before.before.before.before.shape_of_lem.result.total in
+    let fits = c.before.before.before.before.before.before.before.before.before.before.before.shape_of.ensures in
+    let size = c.before.before.before.before.before.before.before.before.before.before.before.shape_of.result.total in
     let here : Here t l.c l.base size = record { inside = omega (arith, h, i.1); start = i.5; many = fits.products ∙ ap (product_count t) i.2.number } in
     let hits = c.before.before.before.before.before.before.before.before.before.put-hits in
     let marks = take (length a.marks.now - l.base) (drop l.base a.marks.now) in

@@ -54,8 +54,8 @@ mul-mark-products c =
     let l = c.before.before.loop in
     let i = l.invariant in
     let h = c.before.loop-test.true in
-    let fits = c.shape_of_lem.ensures in
-    let size = c.shape_of_lem.result.total in
+    let fits = c.shape_of.ensures in
+    let size = c.shape_of.result.total in
     let here : Here t l.c l.at size = record { inside = omega (arith, h, i.1); start = i.4; many = fits.products ∙ ap (product_count t) i.2.number } in
     omega (arith, marks_small s pre.0 l.c l.at size here)
 
@@ -68,8 +68,8 @@ sub-mark-products c =
     let l = c.before.before.loop in
     let i = l.invariant in
     let h = c.before.loop-test.true in
-    let fits = c.shape_of_lem.ensures in
-    let size = c.shape_of_lem.result.total in
+    let fits = c.shape_of.ensures in
+    let size = c.shape_of.result.total in
     let here : Here t l.c l.at size = record { inside = omega (arith, h, i.1); start = i.4; many = fits.products ∙ ap (product_count t) i.2.number } in
     let room : mark_total t ≤ length l.marks = omega (arith, i.3, pre.4) in
     omega (arith, marks-room t l.c l.at size here l.marks room)
@@ -83,8 +83,8 @@ part-mark-products-start c =
     let l = c.before.before.loop in
     let i = l.invariant in
     let h = c.before.loop-test.true in
-    let fits = c.shape_of_lem.ensures in
-    let size = c.shape_of_lem.result.total in
+    let fits = c.shape_of.ensures in
+    let size = c.shape_of.result.total in
     let here : Here t l.c l.at size = record { inside = omega (arith, h, i.1); start = i.4; many = fits.products ∙ ap (product_count t) i.2.number } in
     let room : mark_total t ≤ length l.marks = omega (arith, i.3, pre.4) in
     omega (arith, marks-room t l.c l.at size here l.marks room)
@@ -102,8 +102,8 @@ mark-products-requires c κs =
     let i = l.invariant in
     let h = c.before.before.loop-test.true in
     let stands = nth-stands s pre.0 l.c l.p (omega (arith, h, i.1)) i.2 in
-    let fits = c.before.shape_of_lem.ensures in
-    let size = c.before.shape_of_lem.result.total in
+    let fits = c.before.shape_of.ensures in
+    let size = c.before.shape_of.result.total in
     let here : Here t l.c l.at size = record { inside = omega (arith, h, i.1); start = i.4; many = fits.products ∙ ap (product_count t) i.2.number } in
     let room : mark_total t ≤ length l.marks = omega (arith, i.3, pre.4) in
     (stands, fits, pre.2, pre.3, part_room t l.c l.at size here l.marks room)
@@ -117,8 +117,8 @@ add_at c =
     let l = c.before.before.before.before.before.before.before.loop in
     let i = l.invariant in
     let h = c.before.before.before.before.before.before.loop-test.true in
-    let fits = c.before.before.before.before.before.shape_of_lem.ensures in
-    let size = c.before.before.before.before.before.shape_of_lem.result.total in
+    let fits = c.before.before.before.before.before.shape_of.ensures in
+    let size = c.before.before.before.before.before.shape_of.result.total in
     let here : Here t l.c l.at size = record { inside = omega (arith, h, i.1); start = i.4; many = fits.products ∙ ap (product_count t) i.2.number } in
     omega (arith, marks_small s pre.0 l.c l.at size here)
 
@@ -148,8 +148,8 @@ loop-again c =
     let l = c.before.before.before.before.before.before.before.before.loop in
     let i = l.invariant in
     let h = c.before.before.before.before.before.before.before.loop-test.true in
-    let fits = c.before.before.before.before.before.before.shape_of_lem.ensures in
-    let size = c.before.before.before.before.before.before.shape_of_lem.result.total in
+    let fits = c.before.before.before.before.before.before.shape_of.ensures in
+    let size = c.before.before.before.before.before.before.shape_of.result.total in
     let here : Here t l.c l.at size = record { inside = omega (arith, h, i.1); start = i.4; many = fits.products ∙ ap (product_count t) i.2.number } in
     let room : mark_total t ≤ length l.marks = omega (arith, i.3, pre.4) in
     let q = c.before.before.before.before.mark-products in (

@@ -67,8 +67,8 @@ put-one-requires c κs =
     let h = c.before.before.loop-test.true in
     let in_table : l.c < length (table_of s).crosses = omega (arith, h, i.1) in
     let stands = nth-stands s pre.0.0 l.c l.p in_table i.2 in
-    let fits = c.before.shape_of_lem.ensures in
-    let size = c.before.shape_of_lem.result.total in
+    let fits = c.before.shape_of.ensures in
+    let size = c.before.shape_of.result.total in
     let here : Here (table_of s) l.c (mark_start (table_of s) l.c) size = record { inside = in_table; start = refl; many = fits.products ∙ ap (product_count (table_of s)) i.2.number } in
     let small = marks_small s pre.0.0 l.c (mark_start (table_of s) l.c) size here in
     let n = c.before.before.before.before.before.layout_of.result.cross_count in
@@ -97,8 +97,8 @@ counters-of-requires c κs =
     let h = c.before.before.before.before.before.loop-test.true in
     let in_table : l.c < length (table_of s).crosses = omega (arith, h, i.1) in
     let stands = nth-stands s pre.0.0 l.c l.p in_table i.2 in
-    let fits = c.before.before.before.before.shape_of_lem.ensures in
-    let size = c.before.before.before.before.shape_of_lem.result.total in
+    let fits = c.before.before.before.before.shape_of.ensures in
+    let size = c.before.before.before.before.shape_of.result.total in
     let here : Here (table_of s) l.c (mark_start (table_of s) l.c) size = record { inside = in_table; start = refl; many = fits.products ∙ ap (product_count (table_of s)) i.2.number } in
     let small = marks_small s pre.0.0 l.c (mark_start (table_of s) l.c) size here in
     let n = c.before.before.before.before.before.before.before.before.layout_of.result.cross_count in
@@ -117,8 +117,8 @@ add-first c =
     let h = c.before.before.before.before.before.before.loop-test.true in
     let in_table : l.c < length (table_of s).crosses = omega (arith, h, i.1) in
     let stands = nth-stands s pre.0.0 l.c l.p in_table i.2 in
-    let fits = c.before.before.before.before.before.shape_of_lem.ensures in
-    let size = c.before.before.before.before.before.shape_of_lem.result.total in
+    let fits = c.before.before.before.before.before.shape_of.ensures in
+    let size = c.before.before.before.before.before.shape_of.result.total in
     let here : Here (table_of s) l.c (mark_start (table_of s) l.c) size = record { inside = in_table; start = refl; many = fits.products ∙ ap (product_count (table_of s)) i.2.number } in
     let small = marks_small s pre.0.0 l.c (mark_start (table_of s) l.c) size here in
     let n = c.before.before.before.before.before.before.before.before.before.layout_of.result.cross_count in
@@ -137,8 +137,8 @@ add_start c =
     let h = c.before.before.before.before.before.before.before.loop-test.true in
     let in_table : l.c < length (table_of s).crosses = omega (arith, h, i.1) in
     let stands = nth-stands s pre.0.0 l.c l.p in_table i.2 in
-    let fits = c.before.before.before.before.before.before.shape_of_lem.ensures in
-    let size = c.before.before.before.before.before.before.shape_of_lem.result.total in
+    let fits = c.before.before.before.before.before.before.shape_of.ensures in
+    let size = c.before.before.before.before.before.before.shape_of.result.total in
     let here : Here (table_of s) l.c (mark_start (table_of s) l.c) size = record { inside = in_table; start = refl; many = fits.products ∙ ap (product_count (table_of s)) i.2.number } in
     let small = marks_small s pre.0.0 l.c (mark_start (table_of s) l.c) size here in
     let n = c.before.before.before.before.before.before.before.before.before.before.layout_of.result.cross_count in
@@ -184,8 +184,8 @@ loop-again c =
     let h = c.before.before.before.before.before.before.before.before.loop-test.true in
     let in_table : l.c < length (table_of s).crosses = omega (arith, h, i.1) in
     let stands = nth-stands s pre.0.0 l.c l.p in_table i.2 in
-    let fits = c.before.before.before.before.before.before.before.shape_of_lem.ensures in
-    let size = c.before.before.before.before.before.before.before.shape_of_lem.result.total in
+    let fits = c.before.before.before.before.before.before.before.shape_of.ensures in
+    let size = c.before.before.before.before.before.before.before.shape_of.result.total in
     let here : Here (table_of s) l.c (mark_start (table_of s) l.c) size = record { inside = in_table; start = refl; many = fits.products ∙ ap (product_count (table_of s)) i.2.number } in
     let small = marks_small s pre.0.0 l.c (mark_start (table_of s) l.c) size here in
     let n = c.before.before.before.before.before.before.before.before.before.before.before.layout_of.result.cross_count in

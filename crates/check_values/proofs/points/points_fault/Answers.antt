@@ -1,0 +1,28 @@
+use Rattle.model.specs.Format.{read_point}
+use Rattle.words.proofs.Laws.{timess}
+use Rattle.check_values.proofs.points.points_fault.Goals as goal
+
+pub loop-i-init : goal.loop-i-init
+loop-i-init c = search timess
+
+pub point_fault-r-requires : goal.point_fault-r-requires
+point_fault-r-requires c = search timess
+
+pub returns-then-r-ne0 : goal.returns-then-r-ne0
+returns-then-r-ne0 c = search timess
+
+pub overflow_add-i : goal.overflow_add-i
+overflow_add-i c = search timess
+
+pub loop-i-smaller : goal.loop-i-smaller
+loop-i-smaller c = search timess
+
+pub loop-i-preserved : goal.loop-i-preserved
+unfolding read_point
+loop-i-preserved c = search timess
+
+pub sound-requires : goal.sound-requires
+sound-requires c = search timess
+
+pub returns : goal.returns
+returns c = search timess
