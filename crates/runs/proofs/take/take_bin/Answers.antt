@@ -34,7 +34,7 @@ here : (c : In-loop-i) →
 here c =
     let a = c.args in
     let l = c.loop-i in
-    taking-here (transition_bin_at (table_of a.t.now) a.b).sequences _ a.plan.now (a.place.row + 2) a.place.words a.register.now l.i l.next.row l.next.words l.lengths l.register l.invariant (omega (arith, (at_head c.before.before.before.before.before.before.before.before.before).1)) c.requires.4
+    taking-here (transition_bin_at (table_of a.t.now) a.b).sequences _ a.plan.now (a.place.row + 2) a.place.words a.register.now l.i l.next.row l.next.words l.lengths l.register l.invariant (omega (arith, (at_head c.before.before.before.before.before.before.before.before.before.before).1)) c.requires.4
 
 pub bounds-plan-from : goal.bounds-plan-from
 bounds-plan-from c = omega (arith, c.requires.3.1, (at_head (goal.at.bounds-plan-from c).Start).3)
