@@ -8,7 +8,7 @@ use native.Mathlib.Omega.{arith}
 use lib.ListN.{length, get_or}
 use Rattle.model.specs.Lists.{sum_of}
 use Rattle.model.specs.Table.{Point, no_point}
-use Rattle.model.specs.Format.{◌>>=◌, times, each, byte, u16, section_count, ranges_of_step, sequences_owned, steps_owned, step_ranges_owned, with_owned, transition_tests, transition_head, read_transition, read_sequence, read_sequences, step_tests, step_head, read_step, read_steps, read_bin_steps, range_tests, range_record, read_range, read_step_ranges, read_transition_ranges, read_transition_section, read_sequence_section, read_step_section, read_step_range_section, read_transition_bins}
+use Rattle.model.specs.Format.{times, each, byte, u16, section_count, ranges_of_step, sequences_owned, steps_owned, step_ranges_owned, with_owned, transition_tests, transition_head, read_transition, read_sequence, read_sequences, step_tests, step_head, read_step, read_steps, read_bin_steps, range_tests, range_record, read_range, read_step_ranges, read_transition_ranges, read_transition_section, read_sequence_section, read_step_section, read_step_range_section, read_transition_bins}
 use Rattle.model.specs.Raw.{rows, lengths_at, step_total, length_heads_at, step_heads_at, sequence_heads_at, transition_heads_at, range_total, step_at, steps_at, sequences_at, transition_at, transitions_at}
 use Rattle.model.proofs.Readers.{got-tested, done_elim}
 use Rattle.model.proofs.RawLaws.{Says, says-to, says_map, rows-add, sum-append, says_bind, says-owned, says_record, says-cons, says-got, says-times}
