@@ -1,3 +1,4 @@
+use Rattle.points.specs.Kinds.{kinds_in}
 use mathlib.Core.Path.{refl, sym, ap, ◌∙◌}
 use mathlib.Core.List.{List}
 use Prim.Native.Nat.{◌+◌}

@@ -1,3 +1,4 @@
+use Rattle.points.specs.Kinds.{kinds_in}
 use mathlib.Core.Path.{◌≡◌}
 use Prim.Native.Nat.{◌+◌, ◌-◌, ◌*◌, ◌≤◌}
 use lib.ListN.{length}
