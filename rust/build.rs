@@ -9,7 +9,7 @@ fn main() {
     if !std::path::Path::new(&library).is_file() {
         println!(
             "cargo::error=libfluviquen.a is not in {folder}: \
-             run rt staticlib fluviquen, or set FLUVIQUEN_LIB to its folder"
+             run tools/build, or set FLUVIQUEN_LIB to its folder"
         );
         return;
     }
