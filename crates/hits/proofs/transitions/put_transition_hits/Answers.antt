@@ -1,0 +1,56 @@
+use mathlib.Core.Path.{ap, ap₂, ◌∙◌}
+use mathlib.Core.List.{List}
+use Prim.Native.Nat.{ℕ, ◌-◌, ◌^◌, ◌<◌}
+use native.Mathlib.Omega.{arith}
+use lib.ListN.{length, get_or, take}
+use Rattle.arrays.specs.Put.{put}
+use Rattle.places.specs.Places.{is_set, places_from}
+use Rattle.places.proofs.PlaceLaws.{set_few}
+use Rattle.points.proofs.ValueLaws.{places_ready}
+use Rattle.points.proofs.TransitionExact.{transition_count}
+use Rattle.points.proofs.AllLaws.{few_bins}
+use Rattle.hits.proofs.Ready.{flags_few, base_is, places_small, transitions_hit}
+use Rattle.hits.proofs.transitions.put_transition_hits.Goals as goal
+
+pub put_transitions-n-requires : goal.put_transitions-n-requires
+put_transitions-n-requires c =
+    let a = c.args in
+    let p = c.requires in
+    let g = p.0 in
+    let words : (j : ℕ) → get_or a.lens.now j 0 < 2 ^ 32 = λ j. (c.type_inv.lens j).fits in
+    let near = (places_ready a.t.now g.good a.own.point p.1 a.l g.placed).0 in
+    let n = transition_count a.t.now a.sample.now a.lens.now g.good words a.own.point a.l g.placed in
+    let k = few_bins a.t.now a.sample.now a.lens.now g.good g.widths words a.own.point p.1 in
+    (near.transitions_near, omega (arith, n, k), omega (arith, n, k, p.3), omega (arith, flags_few a.t.now a.sample.now a.lens.now g.good g.widths words a.own.point p.1 a.l g.placed a.own.code p.2))
+
+pub overflow_sub-end : goal.overflow_sub-end
+overflow_sub-end c =
+    let a = c.args in
+    let p = c.requires in
+    let g = p.0 in
+    let words : (j : ℕ) → get_or a.lens.now j 0 < 2 ^ 32 = λ j. (c.type_inv.lens j).fits in
+    let q = c.put_transitions-n in
+    (base_is a.t.now a.sample.now a.lens.now g.good g.widths words a.own.point p.1 a.l g.placed a.own.code p.2 a.end q.result p.5 q.ensures.0).0
+
+pub put_set-requires : goal.put_set-requires
+put_set-requires c =
+    let a = c.args in
+    let p = c.requires in
+    let g = p.0 in
+    let words : (j : ℕ) → get_or a.lens.now j 0 < 2 ^ 32 = λ j. (c.type_inv.lens j).fits in
+    let q = c.put_transitions-n in
+    let few = flags_few a.t.now a.sample.now a.lens.now g.good g.widths words a.own.point p.1 a.l g.placed a.own.code p.2 in
+    let base = base_is a.t.now a.sample.now a.lens.now g.good g.widths words a.own.point p.1 a.l g.placed a.own.code p.2 a.end q.result p.5 q.ensures.0 in
+    (omega (arith, few, q.ensures.0, q.auto.flags), omega (arith, set_few is_set (a.end - q.result) q.result q.new.flags, few, q.ensures.0, p.4), omega (arith, places_small a.t.now a.sample.now a.lens.now g.good g.widths words a.own.point p.1 a.l g.placed a.own.code p.2, q.ensures.0, base.1))
+
+pub returns : goal.returns
+returns c =
+    let a = c.args in
+    let p = c.requires in
+    let g = p.0 in
+    let words : (j : ℕ) → get_or a.lens.now j 0 < 2 ^ 32 = λ j. (c.type_inv.lens j).fits in
+    let q = c.put_transitions-n in
+    let r = c.put_set in
+    let base = base_is a.t.now a.sample.now a.lens.now g.good g.widths words a.own.point p.1 a.l g.placed a.own.code p.2 a.end q.result p.5 q.ensures.0 in
+    let z = ap₂ (λ (b : ℕ) (x : List ℕ). places_from is_set b (take q.result x)) base.1 q.ensures.1 ∙ transitions_hit a.t.now a.sample.now a.lens.now g.good g.widths words a.own.point p.1 a.l g.placed a.own.code p.2 q.result _ q.ensures.0 (omega arith) in
+    (r.ensures.0 ∙ ap length z, r.ensures.1 ∙ ap (λ (x : List ℕ). put 0 x a.hits.now) z)
