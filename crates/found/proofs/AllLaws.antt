@@ -43,7 +43,7 @@ origins-at t p a h few room o k i =
 pub rows_of_lem : (t : Table) (p : ℕ) (w : List ℕ) (from mid cuts to : ℕ) → PointPlan t p w from mid cuts to → RowsOf t p (plan_rows_at (segment w from mid) 0 (length (segment w from mid) / 7)) (length (covers t p))
 rows_of_lem t p w from mid cuts to o =
     let long : length (take (mid - from) (drop from w)) ≡ mid - from = simp (length-take, length-drop) (omega (arith, o.order, o.order₁, o.order₂, o.order₃)) in
-    subst (λ (n : ℕ). RowsOf t p (plan_rows_at (segment w from mid) 0 (n / 7)) (length (covers t p))) (sym long) o.rowsOf
+    subst (λ (n : ℕ). RowsOf t p (plan_rows_at (segment w from mid) 0 (n / 7)) (length (covers t p))) (sym long) o.rows_of
 
 -- its reading
 pub code_at : (t : Table) (w a : List ℕ) (p : ℕ) → Readings t w a → p < point_total t → get_or a p 0 ≡ reading_code (reading t w p)

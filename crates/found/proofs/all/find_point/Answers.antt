@@ -5,7 +5,7 @@ use Rattle.model.specs.Format.{table_of}
 use Rattle.model.proofs.RawExact.{few_points}
 use Rattle.meets.proofs.PlanLaws.{plan-at, few_covers}
 use Rattle.found.proofs.HitLaws.{few_hits}
-use Rattle.found.proofs.AllLaws.{origins-at, rows_of, row_room, row_back}
+use Rattle.found.proofs.AllLaws.{origins-at, rows_of_lem, row_room, row_back}
 use Rattle.found.proofs.all.find_point.Goals as goal
 
 pub bounds_of-b-requires : goal.bounds_of-b-requires

@@ -14,7 +14,7 @@ put_excluded-k-requires c =
     let q = c.requires in
     let k = c.put_rows-b.auto in
     let o = q.t_value.3 in
-    record { t_value = (q.t_value.0, q.t_value.1, omega (arith, k.sorted, q.point_in_bounds.0), omega (arith, k.sorted, k.t, q.point_in_bounds.1)); own_part = (o.part, o.near, o.near_ranges, o.few) }
+    record { t_value = (q.t_value.0, q.t_value.1, omega (arith, k.sorted, q.point_in_bounds.0), omega (arith, k.sorted, k.own, q.point_in_bounds.1)); own_part = (o.part, o.near, o.near_ranges, o.few) }
 
 pub slice_bounds-put_by_rows-end-2 : goal.slice_bounds-put_by_rows-end-2
 slice_bounds-put_by_rows-end-2 c =
