@@ -82,7 +82,7 @@ put_found-requires c =
     let b = c.bounds_of-b.ensures in
     let o = plan-at (table_of a.t.now) a.plan.now a.lists.now a.r.point _ _ _ _ q.values_plan.0 q.t_value.1 b.0 b.1 b.2 refl in
     let s = a.t.now in
-    record { t_value = (q.t_value.0, q.t_value.1, q.t_value.2, q.t_value.3, q.t_value.4, q.t_value.5, row_room a.r.point _ a.found.now q.t_value.1 q.values_plan.3); rows_of = (rows_of (table_of s) a.r.point a.plan.now _ _ _ _ o, o.spans, origins-at (table_of s) a.r.point a.lists.now q.t_value.1 (few_covers s q.t_value.0 a.r.point q.t_value.1) q.values_plan.2 q.values_plan.1) }
+    record { t_value = (q.t_value.0, q.t_value.1, q.t_value.2, q.t_value.3, q.t_value.4, q.t_value.5, row_room a.r.point _ a.found.now q.t_value.1 q.values_plan.3); rows_of = (rows_of_lem (table_of s) a.r.point a.plan.now _ _ _ _ o, o.spans, origins-at (table_of s) a.r.point a.lists.now q.t_value.1 (few_covers s q.t_value.0 a.r.point q.t_value.1) q.values_plan.2 q.values_plan.1) }
 
 pub returns : goal.returns
 returns c =
