@@ -1,0 +1,21 @@
+use native.Mathlib.Omega.{arith}
+use Rattle.model.specs.Format.{table_of}
+use Rattle.model.proofs.RawExact.{few_points}
+use Rattle.engine.proofs.EngineLaws.{planned-listed}
+use Rattle.engine.proofs.find_largest.Goals as goal
+
+pub find_all-requires : goal.find_all-requires
+find_all-requires c =
+    let a = c.args in
+    let p = c.requires in
+    let few = few_points a.t.now p.0 in
+    record { t_value = (p.0, p.1, p.2); values_plan = (p.5.values, p.5.origins, omega (arith, p.5.room), omega (arith, few)) }
+
+pub put_hits-requires : goal.put_hits-requires
+put_hits-requires c =
+    let a = c.args in
+    let p = c.requires in
+    let f = c.find_all in
+    let few = few_points a.t.now p.0 in
+    let l = planned-listed (table_of a.t.now) a.plan.now a.lists.now p.5 in
+    record { t_value = (p.0, p.1, p.2, p.3, p.4); found = (f.ensures.0, omega (arith, few, f.ensures.1), l, p.5.marks, p.5.room) }
