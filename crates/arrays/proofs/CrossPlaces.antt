@@ -16,26 +16,26 @@ use Rattle.arrays.specs.Flat.{CrossPlace, next_place, cross_place}
 
 module _ (s : List ℕ) where
   -- i crosses after the place a
-  unfoldable pub placeFrom : CrossPlace → ℕ → CrossPlace
-  placeFrom a zero = a
-  placeFrom a (suc i) = placeFrom (next_place s a) i
+  unfoldable pub place_from : CrossPlace → ℕ → CrossPlace
+  place_from a zero = a
+  place_from a (suc i) = place_from (next_place s a) i
 
-  place_last : (a : CrossPlace) (i : ℕ) → next_place s (placeFrom a i) ≡ placeFrom (next_place s a) i
-  unfolding placeFrom
+  place_last : (a : CrossPlace) (i : ℕ) → next_place s (place_from a i) ≡ place_from (next_place s a) i
+  unfolding place_from
   place_last a zero = refl
   place_last a (suc i) = place_last (next_place s a) i
 
-  pub place_is : (c : ℕ) → cross_place s c ≡ placeFrom (cross_place s 0) c
-  unfolding cross_place placeFrom
+  pub place_is : (c : ℕ) → cross_place s c ≡ place_from (cross_place s 0) c
+  unfolding cross_place place_from
   place_is zero = refl
   place_is (suc c) = ap (next_place s) (place_is c) ∙ place_last (cross_place s 0) c
 
   -- the cross that the bytes say
-  abbrev pub rawAt : CrossPlace → Cross
-  rawAt a = raw.cross_at s a.cross a.bins a.tokens
+  abbrev pub raw_at : CrossPlace → Cross
+  raw_at a = raw.cross_at s a.cross a.bins a.tokens
 
-  crosses_at_lem : (n : ℕ) (a : CrossPlace) (i : ℕ) → i < n → get_or (crosses_at s a.cross a.bins a.tokens n) i no_cross ≡ rawAt (placeFrom a i)
-  unfolding crosses_at placeFrom
+  crosses_at_lem : (n : ℕ) (a : CrossPlace) (i : ℕ) → i < n → get_or (crosses_at s a.cross a.bins a.tokens n) i no_cross ≡ raw_at (place_from a i)
+  unfolding crosses_at place_from
   crosses_at_lem zero a i h = absurd (omega arith)
   crosses_at_lem (suc n) a zero h = refl
   crosses_at_lem (suc n) a (suc i) h = crosses_at_lem n (next_place s a) i (omega arith)
@@ -49,6 +49,6 @@ module _ (s : List ℕ) where
     pub cross-inside : c < record_count s 7
     cross-inside = omega (arith, ap length raw-crosses, length-crosses s (records_place s 7) (records_place s 8) (records_place s 9) (record_count s 7))
 
-    pub cross-raw : cross_at t c ≡ rawAt (cross_place s c)
+    pub cross-raw : cross_at t c ≡ raw_at (cross_place s c)
     unfolding cross_place
-    cross-raw = ap (λ (cs : List Cross). get_or cs c no_cross) raw-crosses ∙ crosses_at_lem (record_count s 7) (cross_place s 0) c cross-inside ∙ ap rawAt (sym (place_is c))
+    cross-raw = ap (λ (cs : List Cross). get_or cs c no_cross) raw-crosses ∙ crosses_at_lem (record_count s 7) (cross_place s 0) c cross-inside ∙ ap raw_at (sym (place_is c))

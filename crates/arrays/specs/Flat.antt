@@ -3,7 +3,7 @@
 use Rattle.std.specs.Prelude.{ℕ, zero, suc, ◌+◌, ◌*◌, ◌<◌, ◌≡◌, Bool, true, ◌&&◌, cond, List, map, eqb, length, get_or, take}
 use Rattle.model.specs.Lists.{up_from, all, concat_of, as_bit, bits_from}
 use Rattle.model.specs.Table.{Table}
-use Rattle.model.specs.Counters.{CoverBin, listed, auto, Counter, value_bin, default_bin, illegal_bin, transition, illegalTransition, crossBin, illegalCross, product, no_cover_bin, cross_at, cross_bin_at, point_counters, cross_counters, cover_bins, meets, products, selects}
+use Rattle.model.specs.Counters.{CoverBin, listed, auto, Counter, value_bin, default_bin, illegal_bin, transition, illegal_transition, cross_bin, illegal_cross, product, no_cover_bin, cross_at, cross_bin_at, point_counters, cross_counters, cover_bins, meets, products, selects}
 use Rattle.model.specs.Sampling.{Reading, skipped, unknown, known, reading, Stretches, hits}
 use Rattle.model.specs.Figures.{in_total, item_of}
 use Rattle.model.specs.Format.{byte}
@@ -26,9 +26,9 @@ kind_of (value_bin c) = 0
 kind_of (default_bin b) = 1
 kind_of (illegal_bin b) = 2
 kind_of (transition b) = 3
-kind_of (illegalTransition b) = 4
-kind_of (crossBin c i) = 5
-kind_of (illegalCross c i) = 6
+kind_of (illegal_transition b) = 4
+kind_of (cross_bin c i) = 5
+kind_of (illegal_cross c i) = 6
 kind_of (product c cs) = 7
 
 unfoldable pub kinds_of : List Counter → List ℕ

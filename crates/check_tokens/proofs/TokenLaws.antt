@@ -13,7 +13,7 @@ use borrow.Author.Rules.{rules}
 use borrow.Author.Tests.{ltb-true, ltb-false, eqb-true, lt-leb, le-leb, eq-eqb}
 use Rattle.model.specs.Lists.{up_from}
 use Rattle.model.specs.Table.{Point, Select, negated, no_point, is_cover}
-use Rattle.model.specs.Format.{Test, field, unused, disagreement, byte, u16, u64, point_record, BinHead, bin_head, no_bin_head, value_tests, cross_points, cover_bin_of, token_rules, token_tests, token_record, token_from, Token, leaf, notToken, andToken, orToken, is_leaf, with_token, expressions}
+use Rattle.model.specs.Format.{Test, field, unused, disagreement, byte, u16, u64, point_record, BinHead, bin_head, no_bin_head, value_tests, cross_points, cover_bin_of, token_rules, token_tests, token_record, token_from, Token, leaf, not_token, and_token, or_token, is_leaf, with_token, expressions}
 use Rattle.model.specs.Raw.{rows, points_at}
 use Rattle.model.specs.Values.{field_value}
 use Rattle.model.proofs.Booleans.{false-true, or-false-right}
@@ -197,20 +197,20 @@ none_wanted : (k : Token) (o : Option (List Select)) → found 0 (after k o) ≡
 unfolding found
 none_wanted k none = refl
 none_wanted (leaf e) (some es) = eqb-zero-suc (length es)
-none_wanted notToken (some []) = refl
-none_wanted notToken (some (e ∷ es)) = go (is_leaf e)
+none_wanted not_token (some []) = refl
+none_wanted not_token (some (e ∷ es)) = go (is_leaf e)
   where
     go : (l : Bool) → found 0 (cond l (some (negated e ∷ es)) none) ≡ false
     go true = unfold found in (eqb-zero-suc (length es))
     go false = unfold found in refl
-none_wanted andToken (some []) = refl
-none_wanted andToken (some (e ∷ [])) = refl
-none_wanted andToken (some (e ∷ f ∷ es)) = eqb-zero-suc (length es)
-none_wanted orToken (some []) = refl
-none_wanted orToken (some (e ∷ [])) = refl
-none_wanted orToken (some (e ∷ f ∷ es)) = eqb-zero-suc (length es)
+none_wanted and_token (some []) = refl
+none_wanted and_token (some (e ∷ [])) = refl
+none_wanted and_token (some (e ∷ f ∷ es)) = eqb-zero-suc (length es)
+none_wanted or_token (some []) = refl
+none_wanted or_token (some (e ∷ [])) = refl
+none_wanted or_token (some (e ∷ f ∷ es)) = eqb-zero-suc (length es)
 
-not-before : (w : ℕ) (o : Option (List Select)) → First false o → found w (after notToken o) ≡ false
+not-before : (w : ℕ) (o : Option (List Select)) → First false o → found w (after not_token o) ≡ false
 unfolding found
 not-before w none h = refl
 not-before w (some []) h = refl
@@ -221,20 +221,20 @@ unfolding found
 leaf_on e w none = refl
 leaf_on e w (some es) = eqb-suc-suc w (length es)
 
-not_on : (w : ℕ) (o : Option (List Select)) → First true o → found (suc w) (after notToken o) ≡ found (suc w) o
+not_on : (w : ℕ) (o : Option (List Select)) → First true o → found (suc w) (after not_token o) ≡ found (suc w) o
 unfolding found
 not_on w none h = refl
 not_on w (some []) h = sym (eqb-suc-zero w)
 not_on w (some (e ∷ es)) h = ap (λ (l : Bool). found (suc w) (cond l (some (negated e ∷ es)) none)) h
 
-and_on : (w : ℕ) (o : Option (List Select)) → found (suc w) (after andToken o) ≡ found (suc (suc w)) o
+and_on : (w : ℕ) (o : Option (List Select)) → found (suc w) (after and_token o) ≡ found (suc (suc w)) o
 unfolding found
 and_on w none = refl
 and_on w (some []) = sym (eqb-suc-zero (suc w))
 and_on w (some (e ∷ [])) = sym (eqb-suc-suc (suc w) 0 ∙ eqb-suc-zero w)
 and_on w (some (e ∷ f ∷ es)) = sym (eqb-suc-suc (suc w) (suc (length es)))
 
-or_on : (w : ℕ) (o : Option (List Select)) → found (suc w) (after orToken o) ≡ found (suc (suc w)) o
+or_on : (w : ℕ) (o : Option (List Select)) → found (suc w) (after or_token o) ≡ found (suc (suc w)) o
 unfolding found
 or_on w none = refl
 or_on w (some []) = sym (eqb-suc-zero (suc w))

@@ -49,9 +49,9 @@ module _ (s : List ℕ) (n at : ℕ) where
   pub steps_in : (r : Verdict) → at ≤ length s → r ≡ verdict_of (read_steps s n at) → r.number ≡ 0 → r.at ≤ length s
   steps_in r h e z = says_in _ _ _ _ r (steps_says s n at h) e z
 
-pub ruleset sequenceSteps = (rules, record_in, steps_stop, steps_on)
+pub ruleset sequence_steps = (rules, record_in, steps_stop, steps_on)
 
-pub ruleset stepsEach = (rules, steps_in, each_start, each-done, owner_stop, owner_on)
+pub ruleset steps_each = (rules, steps_in, each_start, each-done, owner_stop, owner_on)
 
 -- ---- the steps of all sequences
 
@@ -98,4 +98,4 @@ module _ (s : List ℕ) (b q n at sequences sum : ℕ) (many : sequences ≡ byt
       count_on s 256 at sum _ _ total_is c y e z
       (h ∙ ap (λ (l : List ℕ). verdict_of (each (read_steps s) l c.at)) (ap (lengths_at s q) many ∙ sym (lengths_flat s n b q)) ∙ sym (steps_flat s (length_heads_at s b q n) c.at))
 
-pub ruleset stepSection = (rules, record_in, section_stop, section_on)
+pub ruleset step_section = (rules, record_in, section_stop, section_on)

@@ -124,7 +124,7 @@ pub ranges_in : (s : List ℕ) (pt : Point) (n at : ℕ) (r : Verdict) → at �
 unfolding read_range
 ranges_in s pt n at r h e z = times_in s 17 (range_tests s pt true) (range_record s) n at r h e z
 
-pub ruleset rangesEach = (rules, point_below_lem, ranges_in, bins_start, bins_done, bins-stop, bins_on)
+pub ruleset ranges_each = (rules, point_below_lem, ranges_in, bins_start, bins_done, bins-stop, bins_on)
 
 -- ---- the section
 
@@ -142,4 +142,4 @@ module _ (s : List ℕ) (ps : List Point) (b q p n at sequences steps sum : ℕ)
   unfolding read_step_range_section
   section_on c y e z h = count_on s 512 at sum _ _ total_is c y e z h
 
-pub ruleset stepRangeSection = (rules, record_in, section_stop, section_on)
+pub ruleset step_range_section = (rules, record_in, section_stop, section_on)

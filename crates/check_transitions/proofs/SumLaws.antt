@@ -30,7 +30,7 @@ module _ (s : List ℕ) (size : ℕ) where
     unfolding byte_sum bytes_from
     bytes_on r h e = let y : x ≡ sum + (byte s at + byte_sum s size (at + size) (m - (i + 1))) = rw (one_left m i h) at inv in omega arith
 
-pub ruleset byteSums = (rules, bytes_start, bytes-done, bytes_on)
+pub ruleset byte_sums = (rules, bytes_start, bytes-done, bytes_on)
 
 -- a field of one byte, over records
 pub byte-field : {A : Type 0} (s : List ℕ) (f : A → ℕ) (says : ℕ → A) (size off : ℕ) → ((at : ℕ) → f (says at) ≡ byte s (at + off))

@@ -100,7 +100,7 @@ module _ (s : List ℕ) (base i k : ℕ) (kind : k ≡ byte s (base + 8 * i + 1)
   pub first_none : k < 3 → true ≡ first_default (bin_head s (base + 8 * i)) (defaults_up_to s base i)
   first_none h = rw (default-kind (byte s (base + 8 * i + 1)), ← kind, lt-leb 3 k h)
 
-pub ruleset firstDefaults = (rules, first_some, first_none)
+pub ruleset first_defaults = (rules, first_some, first_none)
 
 -- ---- a bin's tests
 

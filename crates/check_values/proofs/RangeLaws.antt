@@ -57,4 +57,4 @@ module _ (s : List ℕ) (points np bins n : ℕ) (wide : AllWide s points np) (k
       times_in s 17 (range_tests s (point_record s (points + 11 * byte s bin)) (eqb (byte s (bin + 1)) 0 && eqb (byte s (bin + 2)) 0)) (range_record s) (u16 s (bin + 6)) at r l
       (q ∙ verdict-bin-at s points np bin at known_at) z
 
-pub ruleset ownedRanges = (eachs, typed_at, ranges_in)
+pub ruleset owned_ranges = (eachs, typed_at, ranges_in)

@@ -11,7 +11,7 @@ use lib.Bits.{bit_and, and_zero_r}
 use lib.ListN.{length, get_or, replicate, length-append, length-map, length-replicate}
 use Rattle.model.specs.Lists.{up_from, any, all, bit, as_bit, or_all, bits_from}
 use Rattle.model.specs.Table.{Kind, cover, ignore, illegal, default, CrossBin, Cross, Table, no_cross_bin, excludes}
-use Rattle.model.specs.Counters.{CoverBin, Counter, crossBin, illegalCross, product, cross_at, cross_bin_at, cross_bin_counter, cross_bin_counters, cross_counters, products, product_count, selects, selected, excluded_product, owns, has_value}
+use Rattle.model.specs.Counters.{CoverBin, Counter, cross_bin, illegal_cross, product, cross_at, cross_bin_at, cross_bin_counter, cross_bin_counters, cross_counters, products, product_count, selects, selected, excluded_product, owns, has_value}
 use Rattle.model.specs.Sampling.{Stretches, guard_true, cover_hit, product_hit, hits}
 use Rattle.model.specs.Figures.{in_total}
 use Rattle.model.specs.Format.{byte, guard_from, CrossBinHead, table_of}
@@ -38,13 +38,13 @@ guarded false false c = refl
 
 -- ---- elements by kind
 
-label_one : (g : Counter → ℕ) (c i a b : ℕ) → g (crossBin c i) ≡ a → g (illegalCross c i) ≡ b → (k : Kind) → map g (cross_bin_counter c i k) ≡ label_of a b k
+label_one : (g : Counter → ℕ) (c i a b : ℕ) → g (cross_bin c i) ≡ a → g (illegal_cross c i) ≡ b → (k : Kind) → map g (cross_bin_counter c i k) ≡ label_of a b k
 label_one g c i a b e₁ e₂ cover = ap (◌∷ []) e₁
 label_one g c i a b e₁ e₂ ignore = refl
 label_one g c i a b e₁ e₂ illegal = ap (◌∷ []) e₂
 label_one g c i a b e₁ e₂ default = refl
 
-module _ (g : Counter → ℕ) (c a b p : ℕ) (on_cover : (i : ℕ) → g (crossBin c i) ≡ a) (on_illegal : (i : ℕ) → g (illegalCross c i) ≡ b) where
+module _ (g : Counter → ℕ) (c a b p : ℕ) (on_cover : (i : ℕ) → g (cross_bin c i) ≡ a) (on_illegal : (i : ℕ) → g (illegal_cross c i) ≡ b) where
   pub bin_labels_lem : (s : List ℕ) (n i at k : ℕ) → map g (cross_bin_counters c i (cross_bins_at s at k n)) ≡ bin_labels a b (heads_at s at n)
   unfolding cross_bin_counters cross_bins_at rows bin_labels
   bin_labels_lem s zero i at k = refl
@@ -123,7 +123,7 @@ module _ (s : List ℕ) (p : Place) (stands : Stands s p) where
       (length-map (products T c) (product c) ∙ products-count T c)
 
   -- the elements of the cross's counters
-  pub labels_exact : (g : Counter → ℕ) (a b x : ℕ) → ((i : ℕ) → g (crossBin p.number i) ≡ a) → ((i : ℕ) → g (illegalCross p.number i) ≡ b) → ((cs : List CoverBin) → g (product p.number cs) ≡ x)
+  pub labels_exact : (g : Counter → ℕ) (a b x : ℕ) → ((i : ℕ) → g (cross_bin p.number i) ≡ a) → ((i : ℕ) → g (illegal_cross p.number i) ≡ b) → ((cs : List CoverBin) → g (product p.number cs) ≡ x)
       → map g (cross_counters (table_of s) p.number) ≡ cross_labels s (product_count (table_of s) p.number) a b x p.cross p.bins
   unfolding cross_labels
   labels_exact g a b x e₁ e₂ e₃ =
@@ -171,8 +171,8 @@ module _ (s : List ℕ) (p : Place) (stands : Stands s p) where
 
   -- the bins' flags, where those of each bin are known
   module _ (w : List ℕ) (total live : Bool) (own every : ℕ) (g : Counter → ℕ)
-      (on_cover : (j : ℕ) → j < n → g (crossBin c j) ≡ as_bit ((live && passes w total (cross_bin_at T c j).guard) && bit j own))
-      (on_illegal : (j : ℕ) → j < n → g (illegalCross c j) ≡ as_bit ((live && passes w total (cross_bin_at T c j).guard) && bit j every)) where
+      (on_cover : (j : ℕ) → j < n → g (cross_bin c j) ≡ as_bit ((live && passes w total (cross_bin_at T c j).guard) && bit j own))
+      (on_illegal : (j : ℕ) → j < n → g (illegal_cross c j) ≡ as_bit ((live && passes w total (cross_bin_at T c j).guard) && bit j every)) where
     flags_from : (m i at k : ℕ) → Numbered m i at k → i + m ≤ n → map g (cross_bin_counters c i (cross_bins_at s at k m)) ≡ bin_flags w total live (own / 2 ^ i) (every / 2 ^ i) (heads_at s at m)
     unfolding cross_bin_counters cross_bins_at rows bin_flags
     flags_from zero i at k h l = refl
@@ -263,8 +263,8 @@ module _ (s : List ℕ) (p : Place) (stands : Stands s p) where
 
     -- bins and products together
     both : (w : List ℕ) (total live : Bool) (own every : ℕ) (g : Counter → ℕ)
-        → ((j : ℕ) → j < n → g (crossBin c j) ≡ as_bit ((live && passes w total (cross_bin_at T c j).guard) && bit j own))
-        → ((j : ℕ) → j < n → g (illegalCross c j) ≡ as_bit ((live && passes w total (cross_bin_at T c j).guard) && bit j every))
+        → ((j : ℕ) → j < n → g (cross_bin c j) ≡ as_bit ((live && passes w total (cross_bin_at T c j).guard) && bit j own))
+        → ((j : ℕ) → j < n → g (illegal_cross c j) ≡ as_bit ((live && passes w total (cross_bin_at T c j).guard) && bit j every))
         → ((cs : List CoverBin) → g (product c cs) ≡ as_bit ((live && all f cs) && not (selected T c cs)))
         → map g (cross_counters T c) ≡ bin_flags w total live own every (heads_at s bp n) ++ product_flags live (product_hits T c f) (cross_marks T c)
     both w total live own every g e₁ e₂ e₃ =
@@ -280,10 +280,10 @@ module _ (s : List ℕ) (p : Place) (stands : Stands s p) where
       f : CoverBin → Bool
       f = has_value T
 
-      on_cover : (j : ℕ) → j < n → as_bit (in_total T (crossBin c j)) ≡ as_bit (bit j (own_marks mask (product_hits T c (has_value T)) (cross_marks T c)))
+      on_cover : (j : ℕ) → j < n → as_bit (in_total T (cross_bin c j)) ≡ as_bit (bit j (own_marks mask (product_hits T c (has_value T)) (cross_marks T c)))
       on_cover j h = unfold in_total in (ap as_bit (sym (marks-bit (has_value T) j mask (λ cs. owns T c j cs && all (has_value T) cs) (own-one (has_value T) j h))))
 
-      on_illegal : (j : ℕ) → j < n → as_bit (in_total T (illegalCross c j)) ≡ as_bit (bit j 0)
+      on_illegal : (j : ℕ) → j < n → as_bit (in_total T (illegal_cross c j)) ≡ as_bit (bit j 0)
       on_illegal j h = unfold in_total in (ap as_bit (sym (bit-zero j)))
 
       on_product : (cs : List CoverBin) → as_bit (in_total T (product c cs)) ≡ as_bit (all (has_value T) cs && not (selected T c cs))
@@ -302,14 +302,14 @@ module _ (s : List ℕ) (p : Place) (stands : Stands s p) where
       live : Bool
       live = guard_true w (cross_at T c).guard
 
-      on_cover : (j : ℕ) → j < n → as_bit (hits T w m (crossBin c j)) ≡ as_bit ((live && passes w false (cross_bin_at T c j).guard) && bit j (own_marks mask (product_hits T c f) (cross_marks T c)))
+      on_cover : (j : ℕ) → j < n → as_bit (hits T w m (cross_bin c j)) ≡ as_bit ((live && passes w false (cross_bin_at T c j).guard) && bit j (own_marks mask (product_hits T c f) (cross_marks T c)))
       on_cover j h = unfold hits product_hit in
           (ap as_bit
           (ap (guard_true w (cross_bin_at T c j).guard &&◌) (any_out (owns T c j) (all f) live (products T c))
           ∙ guarded (guard_true w (cross_bin_at T c j).guard) live (any (λ cs. owns T c j cs && all f cs) (products T c))
           ∙ ap ((live && passes w false (cross_bin_at T c j).guard) &&◌) (sym (marks-bit f j mask (λ cs. owns T c j cs && all f cs) (own-one f j h)))))
 
-      on_illegal : (j : ℕ) → j < n → as_bit (hits T w m (illegalCross c j)) ≡ as_bit ((live && passes w false (cross_bin_at T c j).guard) && bit j (own_marks 0 (product_hits T c f) (cross_marks T c)))
+      on_illegal : (j : ℕ) → j < n → as_bit (hits T w m (illegal_cross c j)) ≡ as_bit ((live && passes w false (cross_bin_at T c j).guard) && bit j (own_marks 0 (product_hits T c f) (cross_marks T c)))
       on_illegal j h = unfold hits product_hit in
           (ap as_bit
           (ap (guard_true w (cross_bin_at T c j).guard &&◌) (any_out (λ cs. sel cs j) (all f) live (products T c))

@@ -32,40 +32,40 @@ flags-map false t w m cs = refl
 
 module _ (t : Table) where
   -- the counters of k crosses from c on
-  abbrev pub countersFrom : ℕ → ℕ → List Counter
-  countersFrom c k = concat_of (cross_counters t) (up_from c k)
+  abbrev pub counters_from : ℕ → ℕ → List Counter
+  counters_from c k = concat_of (cross_counters t) (up_from c k)
 
-  pub from_start : (n : ℕ) → n ≡ length t.crosses → countersFrom 0 (n - 0) ≡ all_cross_counters t
+  pub from_start : (n : ℕ) → n ≡ length t.crosses → counters_from 0 (n - 0) ≡ all_cross_counters t
   unfolding all_cross_counters
-  from_start n e = ap (countersFrom 0) (let z : n - 0 ≡ length t.crosses = omega arith in z)
+  from_start n e = ap (counters_from 0) (let z : n - 0 ≡ length t.crosses = omega arith in z)
 
-  pub from_turn : (n c : ℕ) → c < n → countersFrom c (n - c) ≡ cross_counters t c ++ countersFrom (c + 1) (n - (c + 1))
+  pub from_turn : (n c : ℕ) → c < n → counters_from c (n - c) ≡ cross_counters t c ++ counters_from (c + 1) (n - (c + 1))
   unfolding concat_of up_from
-  from_turn n c h = ap (countersFrom c) (one_left n c h) ∙ ap (λ (d : ℕ). cross_counters t c ++ countersFrom d (n - (c + 1))) (sym (add-one c))
+  from_turn n c h = ap (counters_from c) (one_left n c h) ∙ ap (λ (d : ℕ). cross_counters t c ++ counters_from d (n - (c + 1))) (sym (add-one c))
 
-  pub from_end : (n c : ℕ) → n ≤ c → countersFrom c (n - c) ≡ []
+  pub from_end : (n c : ℕ) → n ≤ c → counters_from c (n - c) ≡ []
   unfolding concat_of up_from
-  from_end n c h = ap (countersFrom c) (let z : n - c ≡ 0 = omega arith in z)
+  from_end n c h = ap (counters_from c) (let z : n - c ≡ 0 = omega arith in z)
 
-  pub from_length : (n c : ℕ) → c < n → length (countersFrom c (n - c)) ≡ length (cross_counters t c) + length (countersFrom (c + 1) (n - (c + 1)))
-  from_length n c h = ap length (from_turn n c h) ∙ length-append (cross_counters t c) (countersFrom (c + 1) (n - (c + 1)))
+  pub from_length : (n c : ℕ) → c < n → length (counters_from c (n - c)) ≡ length (cross_counters t c) + length (counters_from (c + 1) (n - (c + 1)))
+  from_length n c h = ap length (from_turn n c h) ∙ length-append (cross_counters t c) (counters_from (c + 1) (n - (c + 1)))
 
-  module _ (n c at at' : ℕ) (l l' : List ℕ) (h : c < n) (fit : at + length (countersFrom c (n - c)) ≤ length l) (e : at' ≡ at + length (cross_counters t c)) where
-    pub map-turn : (g : Counter → ℕ) → l' ≡ put at (map g (cross_counters t c)) l → put at' (map g (countersFrom (c + 1) (n - (c + 1)))) l' ≡ put at (map g (countersFrom c (n - c))) l
+  module _ (n c at at' : ℕ) (l l' : List ℕ) (h : c < n) (fit : at + length (counters_from c (n - c)) ≤ length l) (e : at' ≡ at + length (cross_counters t c)) where
+    pub map-turn : (g : Counter → ℕ) → l' ≡ put at (map g (cross_counters t c)) l → put at' (map g (counters_from (c + 1) (n - (c + 1)))) l' ≡ put at (map g (counters_from c (n - c))) l
     map-turn g w =
-        (put-turn at at' (map g (countersFrom c (n - c))) (map g (cross_counters t c)) (map g (countersFrom (c + 1) (n - (c + 1)))) l l'
-        (ap (map g) (from_turn n c h) ∙ map-append g (cross_counters t c) (countersFrom (c + 1) (n - (c + 1))))
-        (omega (arith, length-map (countersFrom c (n - c)) g)) (omega (arith, length-map (cross_counters t c) g)) w).1
+        (put-turn at at' (map g (counters_from c (n - c))) (map g (cross_counters t c)) (map g (counters_from (c + 1) (n - (c + 1)))) l l'
+        (ap (map g) (from_turn n c h) ∙ map-append g (cross_counters t c) (counters_from (c + 1) (n - (c + 1))))
+        (omega (arith, length-map (counters_from c (n - c)) g)) (omega (arith, length-map (cross_counters t c) g)) w).1
 
     pub flags_turn : (total : Bool) (w : List ℕ) (m : Stretches) → l' ≡ put at (flags_of total t w m (cross_counters t c)) l
-        → put at' (flags_of total t w m (countersFrom (c + 1) (n - (c + 1)))) l' ≡ put at (flags_of total t w m (countersFrom c (n - c))) l
+        → put at' (flags_of total t w m (counters_from (c + 1) (n - (c + 1)))) l' ≡ put at (flags_of total t w m (counters_from c (n - c))) l
     flags_turn total w m k =
-        ap (λ (xs : List ℕ). put at' xs l') (flags-map total t w m (countersFrom (c + 1) (n - (c + 1))))
+        ap (λ (xs : List ℕ). put at' xs l') (flags-map total t w m (counters_from (c + 1) (n - (c + 1))))
         ∙ map-turn (flag_by total t w m) (k ∙ ap (λ (xs : List ℕ). put at xs l) (flags-map total t w m (cross_counters t c)))
-        ∙ sym (ap (λ (xs : List ℕ). put at xs l) (flags-map total t w m (countersFrom c (n - c))))
+        ∙ sym (ap (λ (xs : List ℕ). put at xs l) (flags-map total t w m (counters_from c (n - c))))
 
-  pub map_end : (n c at : ℕ) (l : List ℕ) (g : Counter → ℕ) → n ≤ c → l ≡ put at (map g (countersFrom c (n - c))) l
+  pub map_end : (n c at : ℕ) (l : List ℕ) (g : Counter → ℕ) → n ≤ c → l ≡ put at (map g (counters_from c (n - c))) l
   map_end n c at l g h = sym (ap (λ (cs : List Counter). put at (map g cs) l) (from_end n c h) ∙ put-nil at l)
 
-  pub flags_end : (n c at : ℕ) (l : List ℕ) (total : Bool) (w : List ℕ) (m : Stretches) → n ≤ c → l ≡ put at (flags_of total t w m (countersFrom c (n - c))) l
-  flags_end n c at l total w m h = map_end n c at l (flag_by total t w m) h ∙ ap (λ (xs : List ℕ). put at xs l) (sym (flags-map total t w m (countersFrom c (n - c))))
+  pub flags_end : (n c at : ℕ) (l : List ℕ) (total : Bool) (w : List ℕ) (m : Stretches) → n ≤ c → l ≡ put at (flags_of total t w m (counters_from c (n - c))) l
+  flags_end n c at l total w m h = map_end n c at l (flag_by total t w m) h ∙ ap (λ (xs : List ℕ). put at xs l) (sym (flags-map total t w m (counters_from c (n - c))))

@@ -1,7 +1,7 @@
 -- Elements that depend only on what a counter of a cross is, and on its cross.
 -- Assumes nothing.
 use Rattle.std.specs.Prelude.{ℕ, ◌+◌, ◌≡◌, Bool, cond, List, [], ◌∷◌, ◌++◌, replicate}
-use Rattle.model.specs.Counters.{CoverBin, Counter, crossBin, illegalCross, product}
+use Rattle.model.specs.Counters.{CoverBin, Counter, cross_bin, illegal_cross, product}
 use Rattle.model.specs.Format.{byte, CrossBinHead}
 use Rattle.crosses.specs.Flags.{label_of, heads_at}
 
@@ -19,6 +19,6 @@ shift each c = cond each c 0
 
 -- g is a on cover cross bins, b on illegal ones and p on products, each moved on by the cross's number if `each` says so
 pub record Labels (g : Counter → ℕ) (a b p : ℕ) (each : Bool) : Type 0 where
-  pub on_cover : (c i : ℕ) → g (crossBin c i) ≡ a + shift each c
-  pub on_illegal : (c i : ℕ) → g (illegalCross c i) ≡ b + shift each c
+  pub on_cover : (c i : ℕ) → g (cross_bin c i) ≡ a + shift each c
+  pub on_illegal : (c i : ℕ) → g (illegal_cross c i) ≡ b + shift each c
   pub on_product : (c : ℕ) (cs : List CoverBin) → g (product c cs) ≡ p + shift each c

@@ -18,7 +18,7 @@ use Rattle.products.specs.Marks.{cross_marks}
 use Rattle.places.specs.Places.{places_from}
 use Rattle.places.proofs.PlaceLaws.{places-append}
 use Rattle.crosses.specs.Marked.{mark_start, Marked}
-use Rattle.crosses.proofs.Walks.{countersFrom, from_turn, from_end}
+use Rattle.crosses.proofs.Walks.{counters_from, from_turn, from_end}
 
 -- the first counter of a cross, and all after it
 pub all_small : (s : List ℕ) → accepted s ≡ true → length (all_point_counters (table_of s)) + length (all_cross_counters (table_of s)) ≤ 12416
@@ -40,12 +40,12 @@ no_stretches = record { lengths = λ p. []; matched = λ b l. false }
 module _ (t : Table) (n c : ℕ) where
   -- those of one cross, and those of the crosses after it
   pub places_turn : (k first next : ℕ) (g : Counter → Bool) → c < n → k ≡ c → next ≡ first + length (cross_counters t k)
-      → places_from g first (countersFrom t c (n - c)) ≡ places_from g first (cross_counters t k) ++ places_from g next (countersFrom t (c + 1) (n - (c + 1)))
+      → places_from g first (counters_from t c (n - c)) ≡ places_from g first (cross_counters t k) ++ places_from g next (counters_from t (c + 1) (n - (c + 1)))
   places_turn k first next g h ek en =
-      ap (places_from g first) (from_turn t n c h) ∙ places-append g first (cross_counters t c) (countersFrom t (c + 1) (n - (c + 1)))
-      ∙ ap (λ (j : ℕ). places_from g first (cross_counters t j) ++ places_from g (first + length (cross_counters t j)) (countersFrom t (c + 1) (n - (c + 1)))) (sym ek)
-      ∙ ap (λ (j : ℕ). places_from g first (cross_counters t k) ++ places_from g j (countersFrom t (c + 1) (n - (c + 1)))) (sym en)
+      ap (places_from g first) (from_turn t n c h) ∙ places-append g first (cross_counters t c) (counters_from t (c + 1) (n - (c + 1)))
+      ∙ ap (λ (j : ℕ). places_from g first (cross_counters t j) ++ places_from g (first + length (cross_counters t j)) (counters_from t (c + 1) (n - (c + 1)))) (sym ek)
+      ∙ ap (λ (j : ℕ). places_from g first (cross_counters t k) ++ places_from g j (counters_from t (c + 1) (n - (c + 1)))) (sym en)
 
-  pub places_end : (first : ℕ) (g : Counter → Bool) → n ≤ c → places_from g first (countersFrom t c (n - c)) ≡ []
+  pub places_end : (first : ℕ) (g : Counter → Bool) → n ≤ c → places_from g first (counters_from t c (n - c)) ≡ []
   unfolding places_from
   places_end first g h = ap (places_from g first) (from_end t n c h)

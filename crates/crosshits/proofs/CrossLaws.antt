@@ -172,10 +172,10 @@ module _ (s w f a : List ℕ) (x : Cross) (given : Given s w f a x) where
   many_products_lem = products-count T c ∙ sym given.fits.products
 
   -- the numbers of the hit products
-  abbrev hitNumbers : List ℕ
-  hitNumbers = places_from hit 0 (products T c)
+  abbrev hit_numbers : List ℕ
+  hit_numbers = places_from hit 0 (products T c)
 
-  numbers_are : cross_numbers s f x ≡ hitNumbers
+  numbers_are : cross_numbers s f x ≡ hit_numbers
   unfolding products
   numbers_are =
       ap (numbers_from s f (cp + 1) 0) (sizes-parts s x.place given.stands x.shape given.fits)
@@ -212,7 +212,7 @@ module _ (s w f a : List ℕ) (x : Cross) (given : Given s w f a x) where
   pub numbers_below : (n : ℕ) (l : List ℕ) → take n l ≡ cross_numbers s f x → n ≡ length (cross_numbers s f x) → Below n 1024 l
   unfolding Below
   numbers_below n l e en i h =
-      let b = below_at (0 + length (products T c)) hitNumbers (places-below hit 0 (products T c)) i (omega (arith, ap length numbers_are)) in
+      let b = below_at (0 + length (products T c)) hit_numbers (places-below hit 0 (products T c)) i (omega (arith, ap length numbers_are)) in
       let same = sym (get_or-take n l i 0 h) ∙ ap (λ (v : List ℕ). get_or v i 0) (e ∙ numbers_are) in
       omega (arith, b, same, many_products_lem, given.fits.whole.small)
 
@@ -255,22 +255,22 @@ module _ (s w f a : List ℕ) (x : Cross) (given : Given s w f a x) where
       ap (λ (n : ℕ). map (λ k. get_or a (x.start + k) 0) (up_from 0 n)) many_products_lem
       ∙ row_is x.start x.shape.total a (cross_marks T c) given.marks (length-map (products T c) (cross_mark T c) ∙ many_products_lem)
 
-  listed : (mask : ℕ) → own_marks mask hs ms ≡ list_marks mask a x.start hitNumbers
+  listed : (mask : ℕ) → own_marks mask hs ms ≡ list_marks mask a x.start hit_numbers
   unfolding product_hits
   listed mask = sym (marks_listed hit a x.start mask 0 (products T c) ∙ ap (own_marks mask (flags_of hit a x.start (products T c))) marks_row)
 
-  own_rest : (n : ℕ) → places_from is_set n (product_flags true hs ms) ≡ own_places a x.start n hitNumbers
+  own_rest : (n : ℕ) → places_from is_set n (product_flags true hs ms) ≡ own_places a x.start n hit_numbers
   unfolding product_hits
   own_rest n =
       sym (own_listed_lem hit a x.start n 0 (products T c)
       ∙ ap₂ (λ (k : ℕ) (v : List ℕ). places_from is_set k (product_flags true (flags_of hit a x.start (products T c)) v)) (let z : n + 0 ≡ n = omega arith in z) marks_row)
 
-  live_exact : guard_true w (guard_from (byte s (x.place.cross + 5))) ≡ true → (m : Stretches) → live_places s w a hitNumbers x ≡ cross_hits s w m x
+  live_exact : guard_true w (guard_from (byte s (x.place.cross + 5))) ≡ true → (m : Stretches) → live_places s w a hit_numbers x ≡ cross_hits s w m x
   unfolding live_places live_flags
   live_exact e m =
       sym (both_parts true e m
       ∙ ap₂ (λ (y z : ℕ). places_from is_set x.first (bin_flags w false true y z heads) ++ places_from is_set (x.first + length (bin_flags w false true y z heads)) (product_flags true hs ms)) (listed (mask_of heads)) (listed 0)
-      ∙ ap (places_from is_set x.first (bin_flags w false true (list_marks (mask_of heads) a x.start hitNumbers) (list_marks 0 a x.start hitNumbers) heads) ++◌) (own_rest (x.first + length (bin_flags w false true (list_marks (mask_of heads) a x.start hitNumbers) (list_marks 0 a x.start hitNumbers) heads))))
+      ∙ ap (places_from is_set x.first (bin_flags w false true (list_marks (mask_of heads) a x.start hit_numbers) (list_marks 0 a x.start hit_numbers) heads) ++◌) (own_rest (x.first + length (bin_flags w false true (list_marks (mask_of heads) a x.start hit_numbers) (list_marks 0 a x.start hit_numbers) heads))))
 
   -- of the listed numbers
   pub live_written : guard_true w (guard_from (byte s (x.place.cross + 5))) ≡ true → (r : ℕ) (h h₀ : List ℕ)
@@ -285,7 +285,7 @@ module _ (s w f a : List ℕ) (x : Cross) (given : Given s w f a x) where
   unfolding live_places live_flags list_marks or_all own_places
   none_listed e z m =
       sym (live_exact e m)
-      ∙ ap (λ (v : List ℕ). live_places s w a v x) (drop_of_length-le hitNumbers {i = 0} (omega (arith, numbers_many, ap length numbers_are)))
+      ∙ ap (λ (v : List ℕ). live_places s w a v x) (drop_of_length-le hit_numbers {i = 0} (omega (arith, numbers_many, ap length numbers_are)))
       ∙ ap₂ ◌++◌ (ap (places_from is_set x.first) (bins_idle w heads) ∙ bins_none w x.first 0 0 heads) refl
 
   -- how many counters there are

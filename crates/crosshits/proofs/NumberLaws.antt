@@ -47,10 +47,10 @@ module _ (s a : List ℕ) (h : Shape) (x : Turn) (long : length (sizes_of h) ≡
 
     module _ (p row inner n : ℕ) (ep : p ≡ byte s x.point) (er : row ≡ 257 * p) (ei : inner ≡ many (drop (x.q + 1) (sizes_of h))) (en : n ≡ get_or a row 0) where
       -- the numbers of the parts from the i-th on
-      abbrev pub numbersLeft : ℕ → List ℕ
-      numbersLeft i = concat_of (λ d. numbers_from s a (x.point + 1) (x.first + d * inner) (drop (x.q + 1) (sizes_of h))) (map (λ k. get_or a (row + 1 + k) 0) (up_from i (n - i)))
+      abbrev pub numbers_left : ℕ → List ℕ
+      numbers_left i = concat_of (λ d. numbers_from s a (x.point + 1) (x.first + d * inner) (drop (x.q + 1) (sizes_of h))) (map (λ k. get_or a (row + 1 + k) 0) (up_from i (n - i)))
 
-      pub left-start : numbersLeft 0 ≡ turn_numbers s a h x
+      pub left-start : numbers_left 0 ≡ turn_numbers s a h x
       unfolding numbers_from found_parts
       left-start =
           let z : n - 0 ≡ n = omega arith in
@@ -59,14 +59,14 @@ module _ (s a : List ℕ) (h : Shape) (x : Turn) (long : length (sizes_of h) ≡
           ∙ ap (numbers_from s a x.point x.first) (sym sizes-turn)
 
       pub left-turn : (i d : ℕ) → i < n → d ≡ get_or a (row + 1 + i) 0
-          → numbersLeft i ≡ numbers_from s a (x.point + 1) (x.first + d * inner) (drop (x.q + 1) (sizes_of h)) ++ numbersLeft (i + 1)
+          → numbers_left i ≡ numbers_from s a (x.point + 1) (x.first + d * inner) (drop (x.q + 1) (sizes_of h)) ++ numbers_left (i + 1)
       unfolding concat_of up_from
       left-turn i d l ed =
           let z : suc i ≡ i + 1 = omega arith in
           ap (λ (m : ℕ). concat_of (λ d. numbers_from s a (x.point + 1) (x.first + d * inner) ns) (map (λ k. get_or a (row + 1 + k) 0) (up_from i m))) (one_left n i l)
           ∙ ap₂ (λ (y j : ℕ). numbers_from s a (x.point + 1) (x.first + y * inner) ns ++ concat_of (λ d. numbers_from s a (x.point + 1) (x.first + d * inner) ns) (map (λ k. get_or a (row + 1 + k) 0) (up_from j (n - (i + 1))))) (sym ed) z
 
-      pub left_end : (i : ℕ) → n ≤ i → numbersLeft i ≡ []
+      pub left_end : (i : ℕ) → n ≤ i → numbers_left i ≡ []
       unfolding concat_of up_from
       left_end i l = ap (λ (m : ℕ). concat_of (λ d. numbers_from s a (x.point + 1) (x.first + d * inner) ns) (map (λ k. get_or a (row + 1 + k) 0) (up_from i m))) (let z : n - i ≡ 0 = omega arith in z)
 

@@ -1,6 +1,6 @@
 // The places of all crosses.
 ghost use Rattle.std.specs.Prelude.{◌≡◌, true, ◌+◌, ◌≤◌, length, take, drop};
-ghost use Rattle.model.specs.Sampling.{Stretches, hits as hitBy};
+ghost use Rattle.model.specs.Sampling.{Stretches, hits as hit_by};
 ghost use Rattle.model.specs.Register.{point_total};
 ghost use Rattle.model.specs.Format.{accepted, table_of};
 ghost use Rattle.arrays.specs.Put.{put};
@@ -26,7 +26,7 @@ pub fn put_cross_hits(
 ) -> usize
     requires t_value { (accepted t.now ≡ true) × Found (table_of t.now) sample.now found.now × (take (point_total (table_of t.now)) plan.now ≡ cover_counts (table_of t.now)) × Marked (table_of t.now) (drop 16 plan.now) }
     requires base_value { (base ≡ length (all_point_counters (table_of t.now))) × (length (all_cross_counters (table_of t.now)) ≤ length hits.old) }
-    ensures { (m : Stretches) → (result ≡ length (places_from (hitBy (table_of t.now) sample.now m) base (all_cross_counters (table_of t.now)))) × (hits.new ≡ put 0 (places_from (hitBy (table_of t.now) sample.now m) base (all_cross_counters (table_of t.now))) hits.old) }
+    ensures { (m : Stretches) → (result ≡ length (places_from (hit_by (table_of t.now) sample.now m) base (all_cross_counters (table_of t.now)))) × (hits.new ≡ put 0 (places_from (hit_by (table_of t.now) sample.now m) base (all_cross_counters (table_of t.now))) hits.old) }
 {
     let l = layout_of(t);
     let n = l.cross_count;

@@ -3,7 +3,7 @@
 
 ghost use Rattle.std.specs.Prelude.{◌≡◌, true, ◌+◌, ◌*◌, ◌≤◌, length, take, drop};
 ghost use Rattle.model.specs.Format.{accepted, table_of};
-ghost use Rattle.model.specs.Sampling.{Stretches, hits as hitBy};
+ghost use Rattle.model.specs.Sampling.{Stretches, hits as hit_by};
 ghost use Rattle.model.specs.Register.{point_total, counter_total, run_stretches};
 ghost use Rattle.arrays.specs.Put.{put};
 ghost use Rattle.arrays.specs.Flat.{all_point_counters, all_cross_counters, Readings};
@@ -29,7 +29,7 @@ fn put_crossed(
 ) -> usize
     requires t_value { (accepted t.now ≡ true) × Found (table_of t.now) sample.now found.now × Listed (table_of t.now) lists.now × Marked (table_of t.now) (drop (marks_at (table_of t.now)) lists.now) × (lists_need (table_of t.now) ≤ length lists.now) }
     requires base_value { (base ≡ length (all_point_counters (table_of t.now))) × (length (all_cross_counters (table_of t.now)) ≤ length hits.old) }
-    ensures { (m : Stretches) → (result ≡ length (places_from (hitBy (table_of t.now) sample.now m) base (all_cross_counters (table_of t.now)))) × (hits.new ≡ put 0 (places_from (hitBy (table_of t.now) sample.now m) base (all_cross_counters (table_of t.now))) hits.old) }
+    ensures { (m : Stretches) → (result ≡ length (places_from (hit_by (table_of t.now) sample.now m) base (all_cross_counters (table_of t.now)))) × (hits.new ≡ put 0 (places_from (hit_by (table_of t.now) sample.now m) base (all_cross_counters (table_of t.now))) hits.old) }
 {
     let n = point_count(t);
     let at = 81 + 514 * n;

@@ -26,8 +26,8 @@ pub struct GroupAnswer {
 
 // An item's figure: its coverage in percent, or none.
 pub fn item_figure(table: &[u8], register: &[u32], item: usize) -> ItemAnswer
-    ensures number_value { result.number ≡ (Model.call table.now register.now (Model.askItem item)).response.number }
-    ensures figure_value { item_answer result.figure ≡ (Model.call table.now register.now (Model.askItem item)).response.answer }
+    ensures number_value { result.number ≡ (Model.call table.now register.now (Model.ask_item item)).response.number }
+    ensures figure_value { item_answer result.figure ≡ (Model.call table.now register.now (Model.ask_item item)).response.answer }
 {
     let f = facts(table);
     let own = f.number;

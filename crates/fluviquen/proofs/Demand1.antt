@@ -11,7 +11,7 @@ use borrow.Fn.Kinds.{Dens, ended_of, res_t}
 use Rattle.model.specs.Lists.{first_failed}
 use Rattle.model.specs.Table.{Table}
 use Rattle.model.specs.Format.{Outcome, rejected, decoded, decode, number_of, table_of}
-use Rattle.model.specs.Register.{illegal_total, Call, reset, start, stop, sample, askCounter, askUnknown, askItem, ask_group, Response, Effect, refused_response, refuse, call_tests, accept, perform, on_table, on_outcome, call}
+use Rattle.model.specs.Register.{illegal_total, Call, reset, start, stop, sample, ask_counter, ask_unknown, ask_item, ask_group, Response, Effect, refused_response, refuse, call_tests, accept, perform, on_table, on_outcome, call}
 use Rattle.model.specs.Reference.{register_after}
 use Rattle.batch.specs.Calls.{calls_from}
 use Rattle.batch.proofs.Listed.{batch-is}
@@ -25,9 +25,9 @@ numbered t w reset = refl
 numbered t w start = refl
 numbered t w stop = refl
 numbered t w (sample s r) = refl
-numbered t w (askCounter i) = refl
-numbered t w (askUnknown i) = refl
-numbered t w (askItem i) = refl
+numbered t w (ask_counter i) = refl
+numbered t w (ask_unknown i) = refl
+numbered t w (ask_item i) = refl
 numbered t w ask_group = refl
 
 refused-number : (n : ℕ) (w : List ℕ) (c : Call) → (refuse n w c).response.number ≡ n
@@ -35,9 +35,9 @@ refused-number n w reset = refl
 refused-number n w start = refl
 refused-number n w stop = refl
 refused-number n w (sample s r) = refl
-refused-number n w (askCounter i) = refl
-refused-number n w (askUnknown i) = refl
-refused-number n w (askItem i) = refl
+refused-number n w (ask_counter i) = refl
+refused-number n w (ask_unknown i) = refl
+refused-number n w (ask_item i) = refl
 refused-number n w ask_group = refl
 
 refuses : (k n : ℕ) (t : Table) (w : List ℕ) (c : Call) → (perform k t w c).response.number ≡ suc n → perform k t w c ≡ refuse (suc n) w c

@@ -12,7 +12,7 @@ use borrow.Fn.Kinds.{Dens, ended_of, res_t}
 use Rattle.model.specs.Lists.{first_failed}
 use Rattle.model.specs.Table.{Table}
 use Rattle.model.specs.Format.{Outcome, rejected, decoded, decode, table_of}
-use Rattle.model.specs.Register.{illegal_total, Call, reset, start, stop, sample, askCounter, askUnknown, askItem, ask_group, Answer, nothing, counted, percent, millionths, Response, Effect, call_tests, accept, perform, on_table, on_outcome, call}
+use Rattle.model.specs.Register.{illegal_total, Call, reset, start, stop, sample, ask_counter, ask_unknown, ask_item, ask_group, Answer, nothing, counted, percent, millionths, Response, Effect, call_tests, accept, perform, on_table, on_outcome, call}
 use Rattle.model.specs.Reference.{register_responses, register_after}
 use Rattle.batch.specs.Calls.{batch_calls, batch_responses}
 use Rattle.batch.proofs.Listed.{batch-is}
@@ -59,12 +59,12 @@ pub data Step : List ℕ → List ℕ → Call → Response → List ℕ → Typ
       → Sample.Learnt κs a r e
       → Step a.0.now a.1.0.now (sample a.1.1.0.now a.1.1.1.0.now) (response r nothing e.1.1.1.0.now) e.1.0.now
   counts : (κs : Lfts 3) (a : Dens κs PlaceK.ps) (r : (res_t PlaceK.r κs).Denot) (e : AtExit (ended_of 3 PlaceK.ps PlaceK.r) κs)
-      → Place.Learnt κs a r e → Step a.0.now a.1.0.now (askCounter a.1.1.0) (response r (counted e.1.1.1.0.now) []) a.1.0.now
+      → Place.Learnt κs a r e → Step a.0.now a.1.0.now (ask_counter a.1.1.0) (response r (counted e.1.1.1.0.now) []) a.1.0.now
   unknowns : (κs : Lfts 3) (a : Dens κs UnknownK.ps) (r : (res_t UnknownK.r κs).Denot) (e : AtExit (ended_of 3 UnknownK.ps UnknownK.r) κs)
-      → Unknown.Learnt κs a r e → Step a.0.now a.1.0.now (askUnknown a.1.1.0) (response r (counted e.1.1.1.0.now) []) a.1.0.now
+      → Unknown.Learnt κs a r e → Step a.0.now a.1.0.now (ask_unknown a.1.1.0) (response r (counted e.1.1.1.0.now) []) a.1.0.now
   items : (κs : Lfts 4) (a : Dens κs ItemK.ps) (r : (res_t ItemK.r κs).Denot) (e : AtExit (ended_of 4 ItemK.ps ItemK.r) κs)
       → Item.Learnt κs a r e
-      → Step a.0.now a.1.0.now (askItem a.1.1.0) (response r (percent (read e.1.1.1.0.now e.1.1.1.1.0.now)) []) a.1.0.now
+      → Step a.0.now a.1.0.now (ask_item a.1.1.0) (response r (percent (read e.1.1.1.0.now e.1.1.1.1.0.now)) []) a.1.0.now
   groups : (κs : Lfts 4) (a : Dens κs GroupK.ps) (r : (res_t GroupK.r κs).Denot) (e : AtExit (ended_of 4 GroupK.ps GroupK.r) κs)
       → Group.Learnt κs a r e
       → Step a.0.now a.1.0.now ask_group (response r (millionths (read e.1.1.0.now e.1.1.1.0.now)) []) a.1.0.now
@@ -84,9 +84,9 @@ reread reset a = nothing
 reread start a = nothing
 reread stop a = nothing
 reread (sample v p) a = nothing
-reread (askCounter i) a = counted (count_in a)
-reread (askUnknown i) a = counted (count_in a)
-reread (askItem i) a = percent (read (present_in a) (percent_in a))
+reread (ask_counter i) a = counted (count_in a)
+reread (ask_unknown i) a = counted (count_in a)
+reread (ask_item i) a = percent (read (present_in a) (percent_in a))
 reread ask_group a = millionths (read (present_in a) (millionths_in a))
 
 -- the report of a sample; the words of what is no question
@@ -95,9 +95,9 @@ reported reset p = []
 reported start p = []
 reported stop p = []
 reported (sample v q) p = p
-reported (askCounter i) p = []
-reported (askUnknown i) p = []
-reported (askItem i) p = []
+reported (ask_counter i) p = []
+reported (ask_unknown i) p = []
+reported (ask_item i) p = []
 reported ask_group p = []
 
 abbrev left : Call → List ℕ → List ℕ → List ℕ
@@ -105,9 +105,9 @@ left reset w after = after
 left start w after = after
 left stop w after = after
 left (sample v q) w after = after
-left (askCounter i) w after = w
-left (askUnknown i) w after = w
-left (askItem i) w after = w
+left (ask_counter i) w after = w
+left (ask_unknown i) w after = w
+left (ask_item i) w after = w
 left ask_group w after = w
 
 abbrev whole : List ℕ → Call → Effect → Effect
@@ -127,17 +127,17 @@ performed w reset zero t = refl
 performed w start zero t = refl
 performed w stop zero t = refl
 performed w (sample v p) zero t = refl
-performed w (askCounter i) zero t = refl
-performed w (askUnknown i) zero t = refl
-performed w (askItem i) zero t = ap (λ (a : Answer). effect (response 0 a []) w) (reread-percent _)
+performed w (ask_counter i) zero t = refl
+performed w (ask_unknown i) zero t = refl
+performed w (ask_item i) zero t = ap (λ (a : Answer). effect (response 0 a []) w) (reread-percent _)
 performed w ask_group zero t = ap (λ (a : Answer). effect (response 0 a []) w) (reread-millionths _)
 performed w reset (suc n) t = refl
 performed w start (suc n) t = refl
 performed w stop (suc n) t = refl
 performed w (sample v p) (suc n) t = refl
-performed w (askCounter i) (suc n) t = refl
-performed w (askUnknown i) (suc n) t = refl
-performed w (askItem i) (suc n) t = refl
+performed w (ask_counter i) (suc n) t = refl
+performed w (ask_unknown i) (suc n) t = refl
+performed w (ask_item i) (suc n) t = refl
 performed w ask_group (suc n) t = refl
 
 called : (s w : List ℕ) (c : Call) → call s w c ≡ whole w c (call s w c)
@@ -149,9 +149,9 @@ called s w c = go (decode s) c
     go (rejected f) start = refl
     go (rejected f) stop = refl
     go (rejected f) (sample v p) = refl
-    go (rejected f) (askCounter i) = refl
-    go (rejected f) (askUnknown i) = refl
-    go (rejected f) (askItem i) = refl
+    go (rejected f) (ask_counter i) = refl
+    go (rejected f) (ask_unknown i) = refl
+    go (rejected f) (ask_item i) = refl
     go (rejected f) ask_group = refl
     go (decoded t) c = performed w c (first_failed (call_tests t w c)) t
 
@@ -169,10 +169,10 @@ step_is s w c x after (samples κs a r e p) =
     called s w (sample a.1.1.0.now a.1.1.1.0.now)
     ∙ ap₂ (λ (n : ℕ) (l : List ℕ). effect (response n nothing (call s w (sample a.1.1.0.now a.1.1.1.0.now)).response.report) l) (sym p.0) (sym p.1.0)
     ∙ ap (λ (l : List ℕ). effect (response r nothing l) after) (sym p.1.1)
-step_is s w c x after (counts κs a r e p) = called s w (askCounter a.1.1.0) ∙ asked _ _ _ _ w p.0 (ap counted p.1)
-step_is s w c x after (unknowns κs a r e p) = called s w (askUnknown a.1.1.0) ∙ asked _ _ _ _ w p.0 (ap counted p.1)
+step_is s w c x after (counts κs a r e p) = called s w (ask_counter a.1.1.0) ∙ asked _ _ _ _ w p.0 (ap counted p.1)
+step_is s w c x after (unknowns κs a r e p) = called s w (ask_unknown a.1.1.0) ∙ asked _ _ _ _ w p.0 (ap counted p.1)
 step_is s w c x after (items κs a r e p) =
-    called s w (askItem a.1.1.0) ∙ asked _ _ _ _ w p.0 (ap₂ (λ (n : ℕ) (f : Float). percent (read n f)) p.1.0 p.1.1)
+    called s w (ask_item a.1.1.0) ∙ asked _ _ _ _ w p.0 (ap₂ (λ (n : ℕ) (f : Float). percent (read n f)) p.1.0 p.1.1)
 step_is s w c x after (groups κs a r e p) = called s w ask_group ∙ asked _ _ _ _ w p.0 (ap₂ (λ (n m : ℕ). millionths (read n m)) p.1.0 p.1.1)
 
 -- ---- a batch is the list of its sample calls

@@ -116,8 +116,8 @@ pub extern "C" fn fluviquen_place_count(
     place: usize,
     count: &mut u32,
 ) -> u32
-    ensures value { result ≡ (Model.call table.now reg.now (Model.askCounter place)).response.number }
-    ensures count_after { count.new ≡ count_in (Model.call table.now reg.now (Model.askCounter place)).response.answer }
+    ensures value { result ≡ (Model.call table.now reg.now (Model.ask_counter place)).response.number }
+    ensures count_after { count.new ≡ count_in (Model.call table.now reg.now (Model.ask_counter place)).response.answer }
 {
     let a = register::place_count(table, reg, place);
     *count = a.count;
@@ -132,8 +132,8 @@ pub extern "C" fn fluviquen_unknown_count(
     point: usize,
     count: &mut u32,
 ) -> u32
-    ensures value { result ≡ (Model.call table.now reg.now (Model.askUnknown point)).response.number }
-    ensures count_after { count.new ≡ count_in (Model.call table.now reg.now (Model.askUnknown point)).response.answer }
+    ensures value { result ≡ (Model.call table.now reg.now (Model.ask_unknown point)).response.number }
+    ensures count_after { count.new ≡ count_in (Model.call table.now reg.now (Model.ask_unknown point)).response.answer }
 {
     let a = register::unknown_count(table, reg, point);
     *count = a.count;
@@ -149,9 +149,9 @@ pub extern "C" fn fluviquen_item_figure(
     present: &mut u32,
     percent: &mut f64,
 ) -> u32
-    ensures value { result ≡ (Model.call table.now reg.now (Model.askItem item)).response.number }
-    ensures present_after { present.new ≡ present_in (Model.call table.now reg.now (Model.askItem item)).response.answer }
-    ensures percent_after { percent.new ≡ percent_in (Model.call table.now reg.now (Model.askItem item)).response.answer }
+    ensures value { result ≡ (Model.call table.now reg.now (Model.ask_item item)).response.number }
+    ensures present_after { present.new ≡ present_in (Model.call table.now reg.now (Model.ask_item item)).response.answer }
+    ensures percent_after { percent.new ≡ percent_in (Model.call table.now reg.now (Model.ask_item item)).response.answer }
 {
     let a = figure_calls::item_figure(table, reg, item);
     let f = a.figure;

@@ -9,9 +9,9 @@ use lib.Dec.{eqb}
 use lib.ListN.{length, get_or, take, drop}
 use borrow.Author.Tests.{eqb-true, eq-eqb}
 use Rattle.model.specs.Lists.{up_from, any, keep, concat_of, one_of}
-use Rattle.model.specs.Table.{Point, Kind, cover, ignore, illegal, default, Form, single, perValue, fixed, Range, ValueBin, Table, is_cover, is_default, excludes, no_value_bin}
+use Rattle.model.specs.Table.{Point, Kind, cover, ignore, illegal, default, Form, single, per_value, fixed, Range, ValueBin, Table, is_cover, is_default, excludes, no_value_bin}
 use Rattle.model.specs.Values.{values, in_range, in_ranges, distinct_values, listed_values, portion, bin_count, in_bin}
-use Rattle.model.specs.Counters.{CoverBin, listed, auto, Counter, value_bin, default_bin, illegal_bin, transition, illegalTransition, crossBin, illegalCross, product, point_at, value_bin_at, excluded_value, listed_value, distributed, holds, has_auto, auto_count, bin_counters, value_counters, auto_counters, cover_bins}
+use Rattle.model.specs.Counters.{CoverBin, listed, auto, Counter, value_bin, default_bin, illegal_bin, transition, illegal_transition, cross_bin, illegal_cross, product, point_at, value_bin_at, excluded_value, listed_value, distributed, holds, has_auto, auto_count, bin_counters, value_counters, auto_counters, cover_bins}
 use Rattle.model.specs.Sampling.{Reading, skipped, unknown, known, guard_true, reading, is_in, Stretches, cover_guard, cover_hit, hits}
 use Rattle.model.proofs.Readers.{All, all_append}
 use Rattle.model.proofs.Booleans.{false-true, and_left, and_right, or_right, or-false-left, or-false-right}
@@ -31,9 +31,9 @@ OwnCounter t p (value_bin c) = OwnCover t p c
 OwnCounter t p (default_bin b) = OwnBin t p default b
 OwnCounter t p (illegal_bin b) = OwnBin t p illegal b
 OwnCounter t p (transition b) = ⊥
-OwnCounter t p (illegalTransition b) = ⊥
-OwnCounter t p (crossBin c i) = ⊥
-OwnCounter t p (illegalCross c i) = ⊥
+OwnCounter t p (illegal_transition b) = ⊥
+OwnCounter t p (cross_bin c i) = ⊥
+OwnCounter t p (illegal_cross c i) = ⊥
 OwnCounter t p (product c cs) = ⊥
 
 module _ (t : Table) (p : ℕ) where
@@ -78,9 +78,9 @@ covers-all P Q f (value_bin c ∷ cs) h = (f c h.0, covers-all P Q f cs h.1)
 covers-all P Q f (default_bin b ∷ cs) h = covers-all P Q f cs h.1
 covers-all P Q f (illegal_bin b ∷ cs) h = covers-all P Q f cs h.1
 covers-all P Q f (transition b ∷ cs) h = covers-all P Q f cs h.1
-covers-all P Q f (illegalTransition b ∷ cs) h = covers-all P Q f cs h.1
-covers-all P Q f (crossBin c i ∷ cs) h = covers-all P Q f cs h.1
-covers-all P Q f (illegalCross c i ∷ cs) h = covers-all P Q f cs h.1
+covers-all P Q f (illegal_transition b ∷ cs) h = covers-all P Q f cs h.1
+covers-all P Q f (cross_bin c i ∷ cs) h = covers-all P Q f cs h.1
+covers-all P Q f (illegal_cross c i ∷ cs) h = covers-all P Q f cs h.1
 covers-all P Q f (product c ds ∷ cs) h = covers-all P Q f cs h.1
 
 -- ---- a bin of a listed bin has only values that this lists
@@ -141,7 +141,7 @@ all-portion P n k xs h =
 pub in-bin-listed : (p : Point) (f : Form) (rs : List Range) (k v : ℕ) → in_bin p f rs k v ≡ true → in_ranges rs v ≡ true
 unfolding in_bin
 in-bin-listed p single rs k v e = e
-in-bin-listed p perValue rs k v e =
+in-bin-listed p per_value rs k v e =
     one-all (in_ranges rs) v (take 1 (drop k (distinct_values p rs))) (all_take (λ x. in_ranges rs x ≡ true) 1 (drop k (distinct_values p rs)) (all_drop (λ x. in_ranges rs x ≡ true) k (distinct_values p rs) (unfold distinct_values in (kept (in_ranges rs) (values p))))) e
 in-bin-listed p (fixed n) rs k v e = one-all (in_ranges rs) v (portion n k (listed_values p rs)) (all-portion (λ x. in_ranges rs x ≡ true) n k (listed_values p rs) (all_listed p rs)) e
 

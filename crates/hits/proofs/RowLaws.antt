@@ -9,7 +9,7 @@ use lib.ListN.{length, get_or, take, drop, length-drop}
 use lib.Seq.{get_or-drop, drop-drop, take_all, take-take}
 use borrow.Rule.Slice.PartMut.{put_mid}
 use Rattle.model.specs.Table.{Table}
-use Rattle.model.specs.Counters.{Counter, value_bin, default_bin, illegal_bin, transition, illegalTransition, crossBin, illegalCross, product, point_counters, cover_bins}
+use Rattle.model.specs.Counters.{Counter, value_bin, default_bin, illegal_bin, transition, illegal_transition, cross_bin, illegal_cross, product, point_counters, cover_bins}
 use Rattle.model.specs.Format.{accepted, table_of}
 use Rattle.model.specs.Register.{point_total}
 use Rattle.arrays.specs.Put.{put}
@@ -62,9 +62,9 @@ bins-apart n (value_bin c ∷ cs) = omega (arith, bins-apart (suc n) cs)
 bins-apart n (default_bin b ∷ cs) = omega (arith, bins-apart (suc n) cs)
 bins-apart n (illegal_bin b ∷ cs) = omega (arith, bins-apart (suc n) cs)
 bins-apart n (transition b ∷ cs) = omega (arith, bins-apart (suc n) cs)
-bins-apart n (illegalTransition b ∷ cs) = omega (arith, bins-apart (suc n) cs)
-bins-apart n (crossBin c i ∷ cs) = omega (arith, bins-apart (suc n) cs)
-bins-apart n (illegalCross c i ∷ cs) = omega (arith, bins-apart (suc n) cs)
+bins-apart n (illegal_transition b ∷ cs) = omega (arith, bins-apart (suc n) cs)
+bins-apart n (cross_bin c i ∷ cs) = omega (arith, bins-apart (suc n) cs)
+bins-apart n (illegal_cross c i ∷ cs) = omega (arith, bins-apart (suc n) cs)
 bins-apart n (product c ds ∷ cs) = omega (arith, bins-apart (suc n) cs)
 
 -- the numbers at the start of a point's row

@@ -10,7 +10,7 @@ use lib.ListN.{length, get_or, take, drop, drop_of_length-le}
 use borrow.Author.Tests.{eqb-true, not-false}
 use Rattle.model.specs.Lists.{up_from, any, bit}
 use Rattle.model.specs.Table.{Table}
-use Rattle.model.specs.Counters.{Counter, value_bin, default_bin, illegal_bin, transition, illegalTransition, crossBin, illegalCross, product, transition_bin_at, transition_counters}
+use Rattle.model.specs.Counters.{Counter, value_bin, default_bin, illegal_bin, transition, illegal_transition, cross_bin, illegal_cross, product, transition_bin_at, transition_counters}
 use Rattle.model.specs.Sampling.{Stretches, transition_guards, excluded_match, hits}
 use Rattle.model.specs.Format.{u16, accepted, table_of}
 use Rattle.model.specs.Raw.{count_place, record_count}
@@ -67,9 +67,9 @@ module _ (t : Table) (w : List ℕ) (p : ℕ) where
   none_hit (transition b) own =
       ap (transition_guards t w b &&◌) (any_none (λ l. bit (l - 1) 0 && not (excluded_match t (run_stretches []) (transition_bin_at t b).point l)) (up_from 1 32) (λ l. ap (◌&& not (excluded_match t (run_stretches []) (transition_bin_at t b).point l)) (bit-zero (l - 1))))
       ∙ and-false (transition_guards t w b)
-  none_hit (illegalTransition b) own = ap (transition_guards t w b &&◌) (any_none (λ l. bit (l - 1) 0) (up_from 1 32) (λ l. bit-zero (l - 1))) ∙ and-false (transition_guards t w b)
-  none_hit (crossBin c i) own = absurd own
-  none_hit (illegalCross c i) own = absurd own
+  none_hit (illegal_transition b) own = ap (transition_guards t w b &&◌) (any_none (λ l. bit (l - 1) 0) (up_from 1 32) (λ l. bit-zero (l - 1))) ∙ and-false (transition_guards t w b)
+  none_hit (cross_bin c i) own = absurd own
+  none_hit (illegal_cross c i) own = absurd own
   none_hit (product c cs) own = absurd own
 
   pub no_transition : transition_places t w [] p ≡ []

@@ -12,7 +12,7 @@ use borrow.Author.Tests.{eqb-true}
 use Rattle.model.specs.Lists.{up_from}
 use Rattle.model.specs.Table.{Kind, cover, ignore, illegal, default, ValueBin, Table, no_value_bin}
 use Rattle.model.specs.Values.{in_ranges, bin_count}
-use Rattle.model.specs.Counters.{CoverBin, auto, listed, Counter, value_bin, default_bin, illegal_bin, transition, illegalTransition, crossBin, illegalCross, product, point_at, value_bin_at, listed_value, has_auto, auto_count, bin_counters, value_counters, auto_counters, transition_counters, point_counters, cover_bins}
+use Rattle.model.specs.Counters.{CoverBin, auto, listed, Counter, value_bin, default_bin, illegal_bin, transition, illegal_transition, cross_bin, illegal_cross, product, point_at, value_bin_at, listed_value, has_auto, auto_count, bin_counters, value_counters, auto_counters, transition_counters, point_counters, cover_bins}
 use Rattle.model.specs.Sampling.{known, guard_true, reading, is_in, Stretches, cover_hit, hits}
 use Rattle.model.specs.Register.{run_stretches}
 use Rattle.model.proofs.Readers.{All, all_map, all_both}
@@ -54,9 +54,9 @@ Quiet h (value_bin c) = Unit {0}
 Quiet h (default_bin b) = h (default_bin b) ≡ false
 Quiet h (illegal_bin b) = h (illegal_bin b) ≡ false
 Quiet h (transition b) = h (transition b) ≡ false
-Quiet h (illegalTransition b) = h (illegalTransition b) ≡ false
-Quiet h (crossBin c i) = h (crossBin c i) ≡ false
-Quiet h (illegalCross c i) = h (illegalCross c i) ≡ false
+Quiet h (illegal_transition b) = h (illegal_transition b) ≡ false
+Quiet h (cross_bin c i) = h (cross_bin c i) ≡ false
+Quiet h (illegal_cross c i) = h (illegal_cross c i) ≡ false
 Quiet h (product c cs) = h (product c cs) ≡ false
 
 module _ (h : Counter → Bool) (ps : List ℕ) where
@@ -81,9 +81,9 @@ module _ (h : Counter → Bool) (ps : List ℕ) where
   found_places (default_bin b ∷ cs) n j e q = found_other (default_bin b) n cs _ q.0 (found_places cs (suc n) j e q.1)
   found_places (illegal_bin b ∷ cs) n j e q = found_other (illegal_bin b) n cs _ q.0 (found_places cs (suc n) j e q.1)
   found_places (transition b ∷ cs) n j e q = found_other (transition b) n cs _ q.0 (found_places cs (suc n) j e q.1)
-  found_places (illegalTransition b ∷ cs) n j e q = found_other (illegalTransition b) n cs _ q.0 (found_places cs (suc n) j e q.1)
-  found_places (crossBin c i ∷ cs) n j e q = found_other (crossBin c i) n cs _ q.0 (found_places cs (suc n) j e q.1)
-  found_places (illegalCross c i ∷ cs) n j e q = found_other (illegalCross c i) n cs _ q.0 (found_places cs (suc n) j e q.1)
+  found_places (illegal_transition b ∷ cs) n j e q = found_other (illegal_transition b) n cs _ q.0 (found_places cs (suc n) j e q.1)
+  found_places (cross_bin c i ∷ cs) n j e q = found_other (cross_bin c i) n cs _ q.0 (found_places cs (suc n) j e q.1)
+  found_places (illegal_cross c i ∷ cs) n j e q = found_other (illegal_cross c i) n cs _ q.0 (found_places cs (suc n) j e q.1)
   found_places (product c ds ∷ cs) n j e q = found_other (product c ds) n cs _ q.0 (found_places cs (suc n) j e q.1)
 
 -- ---- the lists of a point are those of its value and auto counters
@@ -112,9 +112,9 @@ module _ (t : Table) (p : ℕ) where
   no_cover (default_bin b) e = refl
   no_cover (illegal_bin b) e = refl
   no_cover (transition b) e = refl
-  no_cover (illegalTransition b) e = refl
-  no_cover (crossBin c i) e = refl
-  no_cover (illegalCross c i) e = refl
+  no_cover (illegal_transition b) e = refl
+  no_cover (cross_bin c i) e = refl
+  no_cover (illegal_cross c i) e = refl
   no_cover (product c cs) e = refl
 
   no_plain : (c : Counter) → TransitionOf t p c → is_plain c ≡ false
@@ -122,9 +122,9 @@ module _ (t : Table) (p : ℕ) where
   no_plain (default_bin b) e = absurd e
   no_plain (illegal_bin b) e = absurd e
   no_plain (transition b) e = refl
-  no_plain (illegalTransition b) e = refl
-  no_plain (crossBin c i) e = refl
-  no_plain (illegalCross c i) e = refl
+  no_plain (illegal_transition b) e = refl
+  no_plain (cross_bin c i) e = refl
+  no_plain (illegal_cross c i) e = refl
   no_plain (product c cs) e = refl
 
   plain_values : plain_places t p ≡ places_from is_plain (point_start t p) (values_of t p)
@@ -139,9 +139,9 @@ module _ (t : Table) (w : List ℕ) (p : ℕ) (m : Stretches) where
   quiet h (default_bin b) own = default-off t w p m h b own
   quiet h (illegal_bin b) own = illegal-off t w p m h b own
   quiet h (transition b) own = absurd own
-  quiet h (illegalTransition b) own = absurd own
-  quiet h (crossBin c i) own = absurd own
-  quiet h (illegalCross c i) own = absurd own
+  quiet h (illegal_transition b) own = absurd own
+  quiet h (cross_bin c i) own = absurd own
+  quiet h (illegal_cross c i) own = absurd own
   quiet h (product c cs) own = absurd own
 
   found_here : 0 < length (hit_parts t w p) → places_from (hits t w m) (point_start t p) (values_of t p) ≡ elements_at (cover_places t p) (hit_parts t w p)
@@ -164,9 +164,9 @@ NoCover f (value_bin c) = f c ≡ false
 NoCover f (default_bin b) = Unit {0}
 NoCover f (illegal_bin b) = Unit {0}
 NoCover f (transition b) = Unit {0}
-NoCover f (illegalTransition b) = Unit {0}
-NoCover f (crossBin c i) = Unit {0}
-NoCover f (illegalCross c i) = Unit {0}
+NoCover f (illegal_transition b) = Unit {0}
+NoCover f (cross_bin c i) = Unit {0}
+NoCover f (illegal_cross c i) = Unit {0}
 NoCover f (product c cs) = Unit {0}
 
 all-no_cover : (f : CoverBin → Bool) (cs : List Counter) → All (λ c. f c ≡ false) (cover_bins cs) → All (NoCover f) cs
@@ -176,9 +176,9 @@ all-no_cover f (value_bin c ∷ cs) h = (h.0, all-no_cover f cs h.1)
 all-no_cover f (default_bin b ∷ cs) h = (tt, all-no_cover f cs h)
 all-no_cover f (illegal_bin b ∷ cs) h = (tt, all-no_cover f cs h)
 all-no_cover f (transition b ∷ cs) h = (tt, all-no_cover f cs h)
-all-no_cover f (illegalTransition b ∷ cs) h = (tt, all-no_cover f cs h)
-all-no_cover f (crossBin c i ∷ cs) h = (tt, all-no_cover f cs h)
-all-no_cover f (illegalCross c i ∷ cs) h = (tt, all-no_cover f cs h)
+all-no_cover f (illegal_transition b ∷ cs) h = (tt, all-no_cover f cs h)
+all-no_cover f (cross_bin c i ∷ cs) h = (tt, all-no_cover f cs h)
+all-no_cover f (illegal_cross c i ∷ cs) h = (tt, all-no_cover f cs h)
 all-no_cover f (product c ds ∷ cs) h = (tt, all-no_cover f cs h)
 
 all_left : {A : Type 0} (P : A → Type 0) (xs ys : List A) → All P (xs ++ ys) → All P xs
@@ -321,9 +321,9 @@ module _ (t : Table) (w : List ℕ) (p : ℕ) where
     unhit (default_bin b) own h = absurd (false-true (sym h.1))
     unhit (illegal_bin b) own h = absurd (false-true (sym h.1))
     unhit (transition b) own h = absurd own
-    unhit (illegalTransition b) own h = absurd own
-    unhit (crossBin c i) own h = absurd own
-    unhit (illegalCross c i) own h = absurd own
+    unhit (illegal_transition b) own h = absurd own
+    unhit (cross_bin c i) own h = absurd own
+    unhit (illegal_cross c i) own h = absurd own
     unhit (product c cs) own h = absurd own
 
     -- the point has none
@@ -350,7 +350,7 @@ any_stretch t w p m = places-agree (hits t w (run_stretches [])) (hits t w m) (p
     same (default_bin b) own = unfold hits in refl
     same (illegal_bin b) own = unfold hits in refl
     same (transition b) own = absurd own
-    same (illegalTransition b) own = absurd own
-    same (crossBin c i) own = absurd own
-    same (illegalCross c i) own = absurd own
+    same (illegal_transition b) own = absurd own
+    same (cross_bin c i) own = absurd own
+    same (illegal_cross c i) own = absurd own
     same (product c cs) own = absurd own

@@ -7,7 +7,7 @@ use Prim.Native.Nat.{ℕ, zero, suc, ◌≤◌, ◌<◌}
 use native.Mathlib.Omega.{arith}
 use lib.Dec.{eqb}
 use borrow.Author.Tests.{ne_eqb}
-use Rattle.model.specs.Table.{Kind, cover, ignore, illegal, default, Point, Range, perValue}
+use Rattle.model.specs.Table.{Kind, cover, ignore, illegal, default, Point, Range, per_value}
 use Rattle.model.specs.Format.{kind_from, form_from}
 use Rattle.model.specs.Ranges.{range_count, covers_of, counters_of, transitions_of}
 use Rattle.limits.specs.Bins.{bars_of}
@@ -71,7 +71,7 @@ cover-few default = omega arith
 pub form-single : (p : Point) (rs : List Range) (k m : ℕ) → k ≡ 0 → 1 ≡ range_count p (form_from k m) rs
 form-single p rs k m e = rw e
 
-pub form_per-value : (p : Point) (rs : List Range) (k m : ℕ) → k ≡ 1 → range_count p perValue rs ≡ range_count p (form_from k m) rs
+pub form_per-value : (p : Point) (rs : List Range) (k m : ℕ) → k ≡ 1 → range_count p per_value rs ≡ range_count p (form_from k m) rs
 form_per-value p rs k m e = rw e
 
 pub form-fixed : (p : Point) (rs : List Range) (k m : ℕ) → (k ≡ 0 → ⊥) → (k ≡ 1 → ⊥) → m ≡ range_count p (form_from k m) rs

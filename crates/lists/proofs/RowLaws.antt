@@ -11,7 +11,7 @@ use lib.Seq.{ext_get_or, get_or-take, get_or-drop, take_at, drop_at, drop-drop, 
 use borrow.Author.Tests.{eqb-true, ltb-true, ltb-false}
 use Rattle.model.proofs.Booleans.{false-true}
 use Rattle.model.specs.Table.{Table}
-use Rattle.model.specs.Counters.{Counter, value_bin, default_bin, illegal_bin, transition, illegalTransition, crossBin, illegalCross, product, point_counters, cover_bins}
+use Rattle.model.specs.Counters.{Counter, value_bin, default_bin, illegal_bin, transition, illegal_transition, cross_bin, illegal_cross, product, point_counters, cover_bins}
 use Rattle.model.specs.Format.{accepted, table_of}
 use Rattle.model.specs.Register.{point_total}
 use Rattle.model.proofs.RawExact.{few_points}
@@ -62,9 +62,9 @@ covers-many n (value_bin b ∷ cs) = ap suc (covers-many (suc n) cs)
 covers-many n (default_bin b ∷ cs) = covers-many (suc n) cs
 covers-many n (illegal_bin b ∷ cs) = covers-many (suc n) cs
 covers-many n (transition b ∷ cs) = covers-many (suc n) cs
-covers-many n (illegalTransition b ∷ cs) = covers-many (suc n) cs
-covers-many n (crossBin c i ∷ cs) = covers-many (suc n) cs
-covers-many n (illegalCross c i ∷ cs) = covers-many (suc n) cs
+covers-many n (illegal_transition b ∷ cs) = covers-many (suc n) cs
+covers-many n (cross_bin c i ∷ cs) = covers-many (suc n) cs
+covers-many n (illegal_cross c i ∷ cs) = covers-many (suc n) cs
 covers-many n (product c ds ∷ cs) = covers-many (suc n) cs
 
 pub cover-places : (t : Table) (p : ℕ) → length (cover_places t p) ≡ length (covers t p)

@@ -6,14 +6,14 @@ use Rattle.std.specs.Prelude.{ℕ, zero, suc, ◌+◌, ◌-◌, ◌*◌, ◌^◌
 use Rattle.std.proofs.Math.Option.{Option, none, some}
 use Rattle.std.specs.Int.Bits.{bit_and}
 use Rattle.model.specs.Lists.{up_from, any, sum_of, within}
-use Rattle.model.specs.Table.{Guard, Point, Kind, cover, ignore, illegal, default, Form, single, perValue, fixed, Range, span, pattern, ValueBin, Step, TransitionBin, Select, whole, named, meeting, negated, both, either, CrossBin, Cross, Table, is_cover, is_default, no_point, no_value_bin, no_table}
+use Rattle.model.specs.Table.{Guard, Point, Kind, cover, ignore, illegal, default, Form, single, per_value, fixed, Range, span, pattern, ValueBin, Step, TransitionBin, Select, whole, named, meeting, negated, both, either, CrossBin, Cross, Table, is_cover, is_default, no_point, no_value_bin, no_table}
 use Rattle.model.specs.Values.{field_value, in_type}
 use Rattle.model.specs.Counters.{within_limits}
 
 -- ---- faults
 
 pub data FaultClass : Type 0 where
-  tooLong cut : FaultClass
+  too_long cut : FaultClass
   -- a section's count or an owned count outside its limits
   count : FaultClass
   -- any other field outside its allowed values, an ignore bin's guard too
@@ -28,7 +28,7 @@ pub data FaultClass : Type 0 where
 
 -- document 01's refusal numbers; count, field, value and unused are the four classes of document 02, Item 1
 abbrev pub number_of : FaultClass → ℕ
-number_of tooLong = 1
+number_of too_long = 1
 number_of cut = 2
 number_of count = 3
 number_of field = 15
@@ -131,7 +131,7 @@ kind_from (suc (suc (suc n))) = default
 
 abbrev pub form_from : ℕ → ℕ → Form
 form_from zero number = single
-form_from (suc zero) number = perValue
+form_from (suc zero) number = per_value
 form_from (suc (suc n)) number = fixed number
 
 -- two i64 fields a and b, from the byte `at` on: in the point's type, and in order
@@ -252,7 +252,7 @@ read_range s p patterns = read_record s 17 (range_tests s p patterns) (range_rec
 
 abbrev pub is_single : Form → Bool
 is_single single = true
-is_single perValue = false
+is_single per_value = false
 is_single (fixed n) = false
 
 -- patterns stand in cover bins of form 0
@@ -448,7 +448,7 @@ read_cross_bins s h = do
 -- A select token: an expression by itself, or an operator before one or two.
 pub data Token : Type 0 where
   leaf : Select → Token
-  notToken andToken orToken : Token
+  not_token and_token or_token : Token
 
 -- bin number b of the value bin section is a cover bin of point p
 unfoldable pub cover_bin_of : List BinHead → ℕ → ℕ → Bool
@@ -474,9 +474,9 @@ abbrev pub token_from : ℕ → ℕ → ℕ → ℕ → ℕ → Token
 token_from zero i b lo hi = leaf (whole i)
 token_from (suc zero) i b lo hi = leaf (named i b)
 token_from (suc (suc zero)) i b lo hi = leaf (meeting i lo hi)
-token_from (suc (suc (suc zero))) i b lo hi = notToken
-token_from (suc (suc (suc (suc zero)))) i b lo hi = andToken
-token_from (suc (suc (suc (suc (suc n))))) i b lo hi = orToken
+token_from (suc (suc (suc zero))) i b lo hi = not_token
+token_from (suc (suc (suc (suc zero)))) i b lo hi = and_token
+token_from (suc (suc (suc (suc (suc n))))) i b lo hi = or_token
 
 abbrev pub token_record : List ℕ → ℕ → Token
 token_record s at = token_from (byte s at) (byte s (at + 1)) (u16 s (at + 2)) (field_value (u64 s (at + 4))) (field_value (u64 s (at + 12)))
@@ -489,9 +489,9 @@ unfoldable pub prefix : Select → List Token
 prefix (whole i) = leaf (whole i) ∷ []
 prefix (named i b) = leaf (named i b) ∷ []
 prefix (meeting i lo hi) = leaf (meeting i lo hi) ∷ []
-prefix (negated e) = notToken ∷ prefix e
-prefix (both e f) = andToken ∷ (prefix e ++ prefix f)
-prefix (either e f) = orToken ∷ (prefix e ++ prefix f)
+prefix (negated e) = not_token ∷ prefix e
+prefix (both e f) = and_token ∷ (prefix e ++ prefix f)
+prefix (either e f) = or_token ∷ (prefix e ++ prefix f)
 
 abbrev pub is_leaf : Select → Bool
 is_leaf (whole i) = true
@@ -514,14 +514,14 @@ nots_ok (either e f) = nots_ok e && nots_ok f
 -- and `notsOk e`.)
 abbrev pub with_token : Token → List Select → Option (List Select)
 with_token (leaf e) es = some (e ∷ es)
-with_token notToken [] = none
-with_token notToken (e ∷ es) = cond (is_leaf e) (some (negated e ∷ es)) none
-with_token andToken [] = none
-with_token andToken (e ∷ []) = none
-with_token andToken (e ∷ f ∷ es) = some (both e f ∷ es)
-with_token orToken [] = none
-with_token orToken (e ∷ []) = none
-with_token orToken (e ∷ f ∷ es) = some (either e f ∷ es)
+with_token not_token [] = none
+with_token not_token (e ∷ es) = cond (is_leaf e) (some (negated e ∷ es)) none
+with_token and_token [] = none
+with_token and_token (e ∷ []) = none
+with_token and_token (e ∷ f ∷ es) = some (both e f ∷ es)
+with_token or_token [] = none
+with_token or_token (e ∷ []) = none
+with_token or_token (e ∷ f ∷ es) = some (either e f ∷ es)
 
 unfoldable pub expressions : List Token → Option (List Select)
 expressions [] = some []
@@ -637,7 +637,7 @@ whole_read size (refused f) = rejected f
 whole_read size (got t at) = cond (eqb at size) (limited size t) (rejected (record { class = leftover; at = at }))
 
 unfoldable pub decode : List ℕ → Outcome
-decode s = cond (leb (length s) 65536) (whole_read (length s) (read_table s 0)) (rejected (record { class = tooLong; at = 0 }))
+decode s = cond (leb (length s) 65536) (whole_read (length s) (read_table s 0)) (rejected (record { class = too_long; at = 0 }))
 
 -- whether the table is accepted; the table, with nothing in it if it is refused
 abbrev pub is_decoded : Outcome → Bool

@@ -5,7 +5,7 @@ use Rattle.std.proofs.Math.Option.{none, some}
 use Rattle.std.specs.Float.{fin}
 use Rattle.std.specs.Float.Ieee.{round, size, span as spread, climb, units, odd}
 use Rattle.std.specs.Int.Count.{count_trailing_zeros}
-use Rattle.model.specs.Table.{cover, ignore, single, perValue, span, pattern, Table}
+use Rattle.model.specs.Table.{cover, ignore, single, per_value, span, pattern, Table}
 use Rattle.model.specs.Lists.{up_from, any, all, keep, count, sum_of, concat_of, one_of, pair_up, or_all, bits_from, first_failed}
 use Rattle.model.specs.Values.{bias, values, in_ranges, distinct_values, listed_values, portion, in_bin}
 use Rattle.model.specs.Counters.{listed, excluded_value, listed_value, distributed, holds, meets, has_value, has_auto, value_counters, transition_counters, point_counters, cover_bins, tuples, cross_parts, products, product_of, cross_bin_counters, cross_counters, counters, selects, within_limits}
@@ -15,7 +15,7 @@ use Rattle.model.specs.Figures.{in_total, item_of, total, covered, figure_of, gr
 use Rattle.model.specs.Format.{tested, ◌>>=◌, times, each, read_record, read_point, read_bin_heads, read_range, read_bin_ranges, read_transition, read_sequence, read_sequences, read_step, read_steps, read_bin_steps, read_step_ranges, read_transition_ranges, all_different, read_cross, read_cross_bin, read_cross_bins, read_token, expressions, read_select, read_selects, u16, u32, u64, value_tests, pattern_tests, range_rules, bin_rules, cover_bin_of, token_rules, read_point_section, read_bin_section, read_range_section, read_transition_section, read_sequence_section, read_step_section, read_step_range_section, read_cross_section, read_cross_bin_section, read_token_section, read_transition_bins, read_crosses, read_table, decode, section_from}
 use Rattle.model.specs.Reference.{register_after}
 use Rattle.model.specs.Build.{le, empty, point_of, signed_of, guarded_of, bin_of, span_of, below0, transition_of, step_of, cross_of, cross_bin_of, token_of}
-use Rattle.model.specs.Register.{Call, reset, start, stop, sample, askCounter, askItem, ask_group, percent, millionths, sequences, words_needed, illegal_total, counts_of, unknowns_of, runs_of, next_runs, bin_lengths, all_lengths, sampled_words, report_words, sampled_report, consistent, in_widths, call_tests, restarted, accept, on_table, call, Measure, measure, section}
+use Rattle.model.specs.Register.{Call, reset, start, stop, sample, ask_counter, ask_item, ask_group, percent, millionths, sequences, words_needed, illegal_total, counts_of, unknowns_of, runs_of, next_runs, bin_lengths, all_lengths, sampled_words, report_words, sampled_report, consistent, in_widths, call_tests, restarted, accept, on_table, call, Measure, measure, section}
 
 -- ---- tables
 
@@ -139,14 +139,14 @@ record Worked : Type 0 where
   whole_table : measure thirty_one ≡ record { number = 0; words = 5; illegals = 0; place = 0 }
   whole_register : after thirty_one (7 ∷ 7 ∷ 7 ∷ 7 ∷ 7 ∷ 7 ∷ []) (reset ∷ read 1 0 ∷ read 1 0 ∷ read 0 1 ∷ []) ≡ 1 ∷ 3 ∷ 0 ∷ 2 ∷ 1 ∷ 7 ∷ []
   -- 25 × 2: 50 percent
-  whole_figure : (call thirty_one (1 ∷ 3 ∷ 0 ∷ 2 ∷ 1 ∷ []) (askItem 0)).response.answer ≡ percent (some (fin false 25 (pos 1)))
+  whole_figure : (call thirty_one (1 ∷ 3 ∷ 0 ∷ 2 ∷ 1 ∷ []) (ask_item 0)).response.answer ≡ percent (some (fin false 25 (pos 1)))
   group : (call two_weights (1 ∷ 1 ∷ 1 ∷ 0 ∷ 1 ∷ 0 ∷ 0 ∷ 0 ∷ 0 ∷ []) ask_group).response.answer ≡ millionths (some 38_888_888)
   cross_words : after crossed (replicate 13 0) (reset ∷ pair 0 0 ∷ pair 3 7 ∷ pair 4 0 ∷ pair 7 7 ∷ []) ≡ 1 ∷ 4 ∷ 2 ∷ 2 ∷ 2 ∷ 2 ∷ 1 ∷ 1 ∷ 0 ∷ 1 ∷ 1 ∷ 0 ∷ 0 ∷ []
   -- 1 of 4: 25 percent
-  cross_figure : (call crossed (1 ∷ 1 ∷ 1 ∷ 0 ∷ 0 ∷ 1 ∷ 1 ∷ 0 ∷ 0 ∷ 0 ∷ 0 ∷ 0 ∷ 0 ∷ []) (askItem 2)).response.answer ≡ percent (some (fin false 25 (pos 0)))
+  cross_figure : (call crossed (1 ∷ 1 ∷ 1 ∷ 0 ∷ 0 ∷ 1 ∷ 1 ∷ 0 ∷ 0 ∷ 0 ∷ 0 ∷ 0 ∷ 0 ∷ []) (ask_item 2)).response.answer ≡ percent (some (fin false 25 (pos 0)))
   -- values are dealt to the bins before ignored ones leave: 2 and 3 are both the second bin's
   dealt : after dealt_first (replicate 5 0) (reset ∷ read 2 0 ∷ read 3 0 ∷ read 0 0 ∷ []) ≡ 1 ∷ 3 ∷ 0 ∷ 2 ∷ 0 ∷ []
-  dealt_figure : (call dealt_first (1 ∷ 3 ∷ 0 ∷ 2 ∷ 0 ∷ []) (askItem 0)).response.answer ≡ percent (some (fin false 25 (pos 2)))
+  dealt_figure : (call dealt_first (1 ∷ 3 ∷ 0 ∷ 2 ∷ 0 ∷ []) (ask_item 0)).response.answer ≡ percent (some (fin false 25 (pos 2)))
   -- F6 hex is −10, 80 hex is −128
   signed_ten : after signed_bins (replicate 6 0) (reset ∷ read 0xF6 0 ∷ []) ≡ 1 ∷ 1 ∷ 0 ∷ 1 ∷ 0 ∷ 0 ∷ []
   signed_lowest : after signed_bins (replicate 6 0) (reset ∷ read 0x80 0 ∷ []) ≡ 1 ∷ 1 ∷ 1 ∷ 0 ∷ 0 ∷ 0 ∷ []
@@ -170,7 +170,7 @@ record Worked : Type 0 where
   short_register : (call thirty_one (1 ∷ 0 ∷ 0 ∷ 0 ∷ []) start).response.number ≡ 7
   bad_flag : (call thirty_one (2 ∷ 0 ∷ 0 ∷ 0 ∷ 0 ∷ []) stop).response.number ≡ 8
   bad_count : (call thirty_one (1 ∷ 0 ∷ 1 ∷ 0 ∷ 0 ∷ []) (sample [] [])).response.number ≡ 8
-  bad_unknown : (call thirty_one (1 ∷ 0 ∷ 0 ∷ 0 ∷ 1 ∷ []) (askCounter 9)).response.number ≡ 8
+  bad_unknown : (call thirty_one (1 ∷ 0 ∷ 0 ∷ 0 ∷ 1 ∷ []) (ask_counter 9)).response.number ≡ 8
   reset_anyway : (call thirty_one (2 ∷ 0 ∷ 0 ∷ 0 ∷ 1 ∷ []) reset).words ≡ 1 ∷ 0 ∷ 0 ∷ 0 ∷ 0 ∷ []
   stopped_first : (call thirty_one (0 ∷ 4_294_967_295 ∷ 0 ∷ 0 ∷ 0 ∷ []) (read 0 0)).response.number ≡ 10
   section_one : section thirty_one 1 ≡ point 1 1 64
@@ -192,7 +192,7 @@ record Worked : Type 0 where
   after10 : measure (thirty_one ++ 0 ∷ []) ≡ refusal 5 31
   over_limits : measure many_products ≡ refusal 6 55
   -- 32 bits, by `Ranges`
-  wide_span : range_count (record { width = 32; signed = false; guard = none; weight = 1; at_least = 1; auto_max = 64 }) perValue (span bias (bias + 0xFFFF_FFFF) ∷ []) ≡ 257
+  wide_span : range_count (record { width = 32; signed = false; guard = none; weight = 1; at_least = 1; auto_max = 64 }) per_value (span bias (bias + 0xFFFF_FFFF) ∷ []) ≡ 257
   one_left : has_value_in (wide_pattern 0xAAAA_AAA9) (listed 0 0) ≡ true
   none_left : has_value_in (wide_pattern 0xAAAA_AAAA) (listed 0 0) ≡ false
 

@@ -10,7 +10,7 @@ use lib.ListN.{length, get_or, take, length-map}
 use lib.Pow.{pow_mono}
 use borrow.Author.Tests.{leb-true, le-leb, ne_eqb, eqb-true}
 use Rattle.model.specs.Lists.{all, one_of, as_bit, sum_of, within}
-use Rattle.model.specs.Table.{Point, Form, single, perValue, fixed, Range, span, pattern, ValueBin, Table, is_cover, no_value_bin}
+use Rattle.model.specs.Table.{Point, Form, single, per_value, fixed, Range, span, pattern, ValueBin, Table, is_cover, no_value_bin}
 use Rattle.model.specs.Values.{lowest}
 use Rattle.model.specs.Ranges.{sizes}
 use Rattle.model.specs.Counters.{no_cover_bin, point_at, value_bin_at, distributed, point_counters}
@@ -85,7 +85,7 @@ module _ (q : Point) (good : GoodPoint q) where
 
   form_dealable : (f : Form) (rs : List Range) → Divisible q good f rs → Deals f rs → dealable f (row_ranges (lowest q) f rs) ≡ true
   form_dealable single rs d h = refl
-  form_dealable perValue rs d h =
+  form_dealable per_value rs d h =
       let fit = spans_fit q good.narrow rs d in
       both (rising 0 (settled_ranges (lowest q) rs)) (leb 1 (sizes (settled_ranges (lowest q) rs))) (settled_rises (lowest q) rs fit) (le-leb 1 (sizes (settled_ranges (lowest q) rs)) (settled_some (lowest q) rs fit h))
   form_dealable (fixed n) rs d h = le-leb 1 n h

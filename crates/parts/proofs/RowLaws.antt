@@ -12,7 +12,7 @@ use lib.ListN.{length, length-append}
 use lib.Pow.{pow_pos, pow_mono}
 use borrow.Author.Tests.{le-leb, eqb-true}
 use Rattle.model.specs.Lists.{sum_of}
-use Rattle.model.specs.Table.{Point, Form, single, perValue, fixed, Range, span, pattern, ValueBin, Table, is_cover}
+use Rattle.model.specs.Table.{Point, Form, single, per_value, fixed, Range, span, pattern, ValueBin, Table, is_cover}
 use Rattle.model.specs.Values.{lowest}
 use Rattle.model.specs.Ranges.{size, ranges_of}
 use Rattle.model.specs.Counters.{point_at, has_auto}
@@ -84,7 +84,7 @@ spans-typed q (pattern bits mask ∷ rs) h = absurd h.0
 
 form-typed : (q : Point) (good : GoodPoint q) (patterns : Bool) (f : Form) (rs : List Range) → All (Legal q patterns) rs → Divisible q good f rs → All (Typed q) (row_ranges (lowest q) f rs)
 form-typed q good patterns single rs h d = legal-typed q good patterns rs h
-form-typed q good patterns perValue rs h d = spans-typed q (row_ranges (lowest q) perValue rs) (settled_spans q good.narrow rs d)
+form-typed q good patterns per_value rs h d = spans-typed q (row_ranges (lowest q) per_value rs) (settled_spans q good.narrow rs d)
 form-typed q good patterns (fixed n) rs h d = spans-typed q rs d
 
 module _ (t : Table) (ok : WellFormed t) (p : ℕ) where
@@ -128,7 +128,7 @@ length-rows-from first (s ∷ ss) =
 
 form_fewer : (low : ℕ) (f : Form) (rs : List Range) → length (row_ranges low f rs) ≤ length rs
 form_fewer low single rs = omega arith
-form_fewer low perValue rs = settled_fewer low rs
+form_fewer low per_value rs = settled_fewer low rs
 form_fewer low (fixed n) rs = omega arith
 
 pub own_fewer : (low p : ℕ) (vs : List ValueBin) → range_total (own_sources low p vs) ≤ length (ranges_of is_cover p vs)

@@ -16,7 +16,7 @@ use Rattle.model.specs.Ranges.{size, sizes}
 use Rattle.model.proofs.Readers.{All}
 use Rattle.model.proofs.Booleans.{and_left, and_right, false-true, bool_eq, or_right}
 use Rattle.model.proofs.Exact.{SpanOf}
-use Rattle.spans.specs.Spans.{low_end, high_end, held, held_by, rises_from, rising as risingWords, join_all, sound, apart_from, apart, Settled}
+use Rattle.spans.specs.Spans.{low_end, high_end, held, held_by, rises_from, rising as rising_words, join_all, sound, apart_from, apart, Settled}
 use Rattle.spans.specs.Collected.{fits_from, words_from}
 use Rattle.spans.proofs.Ends.{both, all_any, high_small, is_held, not-below, not-above}
 use Rattle.spans.proofs.JoinLaws.{join_settles, fewer}
@@ -80,7 +80,7 @@ length-order (x ∷ xs) = length_inserted x (in_order xs) ∙ ap suc (length-ord
 -- ---- joined
 
 settles : (ws : List ℕ) → all sound ws ≡ true → Settled ws (join_all (in_order ws))
-unfolding risingWords held_by
+unfolding rising_words held_by
 settles ws h =
     let ok : all sound (in_order ws) ≡ true = all_any sound (in_order ws) ∙ ap not (any_order (λ w. not (sound w)) ws) ∙ sym (all_any sound ws) ∙ h in
     let j = join_settles (in_order ws) (rises-order ws) ok in

@@ -11,7 +11,7 @@ use borrow.Author.Tests.{eqb-true}
 use Rattle.model.specs.Lists.{up_from, as_bit}
 use Rattle.model.specs.Table.{Kind, cover, ignore, illegal, default, ValueBin, TransitionBin, Table, no_value_bin, no_transition_bin}
 use Rattle.model.specs.Values.{in_ranges, bin_count}
-use Rattle.model.specs.Counters.{listed, auto, Counter, value_bin, default_bin, illegal_bin, transition, illegalTransition, crossBin, illegalCross, product, point_at, value_bin_at, transition_bin_at, point_of, auto_count, has_auto, holds, listed_value, bin_counters, value_counters, transition_counter, transition_counters, auto_counters}
+use Rattle.model.specs.Counters.{listed, auto, Counter, value_bin, default_bin, illegal_bin, transition, illegal_transition, cross_bin, illegal_cross, product, point_at, value_bin_at, transition_bin_at, point_of, auto_count, has_auto, holds, listed_value, bin_counters, value_counters, transition_counter, transition_counters, auto_counters}
 use Rattle.model.specs.Sampling.{guard_true, reading, is_in, Stretches, cover_guard, cover_hit, hits}
 use Rattle.model.proofs.Readers.{All, all_append}
 use Rattle.model.proofs.Lists.{all_row, map_one}
@@ -25,9 +25,9 @@ ValueOf t p (value_bin c) = point_of t c ≡ p
 ValueOf t p (default_bin b) = (value_bin_at t b).point ≡ p
 ValueOf t p (illegal_bin b) = (value_bin_at t b).point ≡ p
 ValueOf t p (transition b) = ⊥
-ValueOf t p (illegalTransition b) = ⊥
-ValueOf t p (crossBin c i) = ⊥
-ValueOf t p (illegalCross c i) = ⊥
+ValueOf t p (illegal_transition b) = ⊥
+ValueOf t p (cross_bin c i) = ⊥
+ValueOf t p (illegal_cross c i) = ⊥
 ValueOf t p (product c cs) = ⊥
 
 -- of one of its transition bins
@@ -36,9 +36,9 @@ TransitionOf t p (value_bin c) = ⊥
 TransitionOf t p (default_bin b) = ⊥
 TransitionOf t p (illegal_bin b) = ⊥
 TransitionOf t p (transition b) = (transition_bin_at t b).point ≡ p
-TransitionOf t p (illegalTransition b) = (transition_bin_at t b).point ≡ p
-TransitionOf t p (crossBin c i) = ⊥
-TransitionOf t p (illegalCross c i) = ⊥
+TransitionOf t p (illegal_transition b) = (transition_bin_at t b).point ≡ p
+TransitionOf t p (cross_bin c i) = ⊥
+TransitionOf t p (illegal_cross c i) = ⊥
 TransitionOf t p (product c cs) = ⊥
 
 module _ (t : Table) (p : ℕ) where
@@ -110,9 +110,9 @@ module _ (t : Table) (w : List ℕ) (p : ℕ) where
     no_hit (default_bin b) e = no-reading (value_bin_at t b).point e (guard_true w (value_bin_at t b).guard) (λ v. not (listed_value t (value_bin_at t b).point v))
     no_hit (illegal_bin b) e = no-reading (value_bin_at t b).point e (guard_true w (value_bin_at t b).guard) (in_ranges (value_bin_at t b).ranges)
     no_hit (transition b) e = absurd e
-    no_hit (illegalTransition b) e = absurd e
-    no_hit (crossBin c i) e = absurd e
-    no_hit (illegalCross c i) e = absurd e
+    no_hit (illegal_transition b) e = absurd e
+    no_hit (cross_bin c i) e = absurd e
+    no_hit (illegal_cross c i) e = absurd e
     no_hit (product c cs) e = absurd e
 
     pub no_hits : hit_flags t w m (value_counters t p 0 t.value_bins ++ auto_counters t p) ≡ replicate (length (value_counters t p 0 t.value_bins ++ auto_counters t p)) 0

@@ -11,7 +11,7 @@ use lib.Seq.{get_or-take, get_or-append-add}
 use borrow.Author.Tests.{eq-eqb, ne_eqb}
 use Rattle.model.specs.Lists.{up_from, concat_of, as_bit}
 use Rattle.model.specs.Table.{Table}
-use Rattle.model.specs.Counters.{Counter, value_bin, default_bin, illegal_bin, transition, illegalTransition, crossBin, illegalCross, product, point_counters, cover_bins}
+use Rattle.model.specs.Counters.{Counter, value_bin, default_bin, illegal_bin, transition, illegal_transition, cross_bin, illegal_cross, product, point_counters, cover_bins}
 use Rattle.model.specs.Register.{point_total}
 use Rattle.model.proofs.Lists.{one_left, none_left}
 use Rattle.arrays.specs.Flat.{kind_of, kinds_of, all_point_counters, point_start, covers}
@@ -59,9 +59,9 @@ module _ (g : Counter → Bool) where
   pick_head (default_bin b) cs = refl
   pick_head (illegal_bin b) cs = refl
   pick_head (transition b) cs = refl
-  pick_head (illegalTransition b) cs = refl
-  pick_head (crossBin c i) cs = refl
-  pick_head (illegalCross c i) cs = refl
+  pick_head (illegal_transition b) cs = refl
+  pick_head (cross_bin c i) cs = refl
+  pick_head (illegal_cross c i) cs = refl
   pick_head (product c ds) cs = refl
 
   picked_exact : (kinds xs : List ℕ) (cs : List Counter) (i : ℕ) → ((j : ℕ) → j < length cs → get_or kinds (i + j) 0 ≡ get_or (map kind_of cs) j 0)

@@ -9,7 +9,7 @@ use lib.ListN.{length, get_or, take, replicate, length-map}
 use lib.Seq.{get_or-take}
 use Rattle.model.specs.Lists.{up_from, concat_of}
 use Rattle.model.specs.Table.{Table}
-use Rattle.model.specs.Counters.{Counter, value_bin, default_bin, illegal_bin, transition, illegalTransition, crossBin, illegalCross, product, value_counters, auto_counters, transition_counters, point_counters}
+use Rattle.model.specs.Counters.{Counter, value_bin, default_bin, illegal_bin, transition, illegal_transition, cross_bin, illegal_cross, product, value_counters, auto_counters, transition_counters, point_counters}
 use Rattle.model.specs.Figures.{item_of}
 use Rattle.model.specs.Format.{accepted, table_of}
 use Rattle.model.specs.Register.{point_total}
@@ -30,9 +30,9 @@ module _ (t : Table) (p : ℕ) where
   value_item (default_bin b) e = e
   value_item (illegal_bin b) e = e
   value_item (transition b) e = absurd e
-  value_item (illegalTransition b) e = absurd e
-  value_item (crossBin c i) e = absurd e
-  value_item (illegalCross c i) e = absurd e
+  value_item (illegal_transition b) e = absurd e
+  value_item (cross_bin c i) e = absurd e
+  value_item (illegal_cross c i) e = absurd e
   value_item (product c cs) e = absurd e
 
   transition_item : (c : Counter) → TransitionOf t p c → item_of t c ≡ p
@@ -41,9 +41,9 @@ module _ (t : Table) (p : ℕ) where
   transition_item (default_bin b) e = absurd e
   transition_item (illegal_bin b) e = absurd e
   transition_item (transition b) e = e
-  transition_item (illegalTransition b) e = e
-  transition_item (crossBin c i) e = absurd e
-  transition_item (illegalCross c i) e = absurd e
+  transition_item (illegal_transition b) e = e
+  transition_item (cross_bin c i) e = absurd e
+  transition_item (illegal_cross c i) e = absurd e
   transition_item (product c cs) e = absurd e
 
   -- every counter of the point has it as its item

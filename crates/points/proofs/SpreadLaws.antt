@@ -10,7 +10,7 @@ use lib.ListN.{length, get_or, set, length-map}
 use borrow.Author.Tests.{eq-eqb, ne_eqb}
 use Rattle.model.specs.Lists.{up_from, concat_of, as_bit}
 use Rattle.model.specs.Table.{Table}
-use Rattle.model.specs.Counters.{Counter, value_bin, default_bin, illegal_bin, transition, illegalTransition, crossBin, illegalCross, product, no_cover_bin, value_counters, auto_counters, transition_counters, point_counters, cover_bins, has_value}
+use Rattle.model.specs.Counters.{Counter, value_bin, default_bin, illegal_bin, transition, illegal_transition, cross_bin, illegal_cross, product, no_cover_bin, value_counters, auto_counters, transition_counters, point_counters, cover_bins, has_value}
 use Rattle.model.specs.Figures.{in_total}
 use Rattle.model.specs.Format.{accepted, table_of}
 use Rattle.model.specs.Register.{point_total}
@@ -64,9 +64,9 @@ OfPoint (value_bin c) = Unit {0}
 OfPoint (default_bin b) = Unit {0}
 OfPoint (illegal_bin b) = Unit {0}
 OfPoint (transition b) = Unit {0}
-OfPoint (illegalTransition b) = Unit {0}
-OfPoint (crossBin c i) = ⊥
-OfPoint (illegalCross c i) = ⊥
+OfPoint (illegal_transition b) = Unit {0}
+OfPoint (cross_bin c i) = ⊥
+OfPoint (illegal_cross c i) = ⊥
 OfPoint (product c cs) = ⊥
 
 module _ (t : Table) (p : ℕ) where
@@ -75,9 +75,9 @@ module _ (t : Table) (p : ℕ) where
   value_of_lem (default_bin b) e = tt
   value_of_lem (illegal_bin b) e = tt
   value_of_lem (transition b) e = absurd e
-  value_of_lem (illegalTransition b) e = absurd e
-  value_of_lem (crossBin c i) e = absurd e
-  value_of_lem (illegalCross c i) e = absurd e
+  value_of_lem (illegal_transition b) e = absurd e
+  value_of_lem (cross_bin c i) e = absurd e
+  value_of_lem (illegal_cross c i) e = absurd e
   value_of_lem (product c cs) e = absurd e
 
   transition_of : (c : Counter) → TransitionOf t p c → OfPoint c
@@ -85,9 +85,9 @@ module _ (t : Table) (p : ℕ) where
   transition_of (default_bin b) e = absurd e
   transition_of (illegal_bin b) e = absurd e
   transition_of (transition b) e = tt
-  transition_of (illegalTransition b) e = tt
-  transition_of (crossBin c i) e = absurd e
-  transition_of (illegalCross c i) e = absurd e
+  transition_of (illegal_transition b) e = tt
+  transition_of (cross_bin c i) e = absurd e
+  transition_of (illegal_cross c i) e = absurd e
   transition_of (product c cs) e = absurd e
 
   all_of : All OfPoint (point_counters t p)
@@ -116,9 +116,9 @@ module _ (t : Table) (kinds xs : List ℕ) where
       go (default_bin b) e k ih = ap (0 ∷◌) (ih at k)
       go (illegal_bin b) e k ih = ap (0 ∷◌) (ih at k)
       go (transition b) e k ih = ap (1 ∷◌) (ih at k)
-      go (illegalTransition b) e k ih = ap (0 ∷◌) (ih at k)
-      go (crossBin c i) e k ih = absurd e
-      go (illegalCross c i) e k ih = absurd e
+      go (illegal_transition b) e k ih = ap (0 ∷◌) (ih at k)
+      go (cross_bin c i) e k ih = absurd e
+      go (illegal_cross c i) e k ih = absurd e
       go (product c ds) e k ih = absurd e
 
   pub point_totals : (p : ℕ) → p < point_total t → Kinded t kinds → Tells (has_value t) t xs → spread kinds xs (point_start t p) (256 * p) (length (point_counters t p)) ≡ total_flags t (point_counters t p)

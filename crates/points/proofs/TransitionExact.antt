@@ -13,7 +13,7 @@ use lib.Seq.{get_or-take}
 use borrow.Author.Tests.{eqb-true}
 use Rattle.model.specs.Lists.{up_from, any, as_bit, bit}
 use Rattle.model.specs.Table.{Kind, cover, ignore, illegal, default, Guard, TransitionBin, Table, excludes, no_transition_bin}
-use Rattle.model.specs.Counters.{transition, illegalTransition, transition_bin_at, transition_counter, transition_counters}
+use Rattle.model.specs.Counters.{transition, illegal_transition, transition_bin_at, transition_counter, transition_counters}
 use Rattle.model.specs.Sampling.{guard_true, reading, is_skipped, excluded_match, transition_guards, hits}
 use Rattle.model.specs.Format.{byte, kind_from, guard_from, accepted, table_of}
 use Rattle.model.specs.Raw.{transition_at, transitions_at, step_total, range_total, records_place, record_count, raw_table}
@@ -104,7 +104,7 @@ module _ (s w lens : List ℕ) (t : Table) (b K : ℕ) (many : length t.transiti
         ∙ ap (λ (c : Bool). bit (l - 1) (get_or lens i 0) && not c) (lost_is l))
         ∙ some_left (get_or lens i 0) (lost_lengths s lens p b 0 K 0) (words i)))
 
-    illegal-hit : as_bit (hits t w (run_stretches (take K lens)) (illegalTransition i)) ≡ as_bit ((guard_true w (guard_from (byte s (b + 4 * i + 2))) && not (is_skipped (reading t w p))) && not (eqb (get_or lens i 0) 0))
+    illegal-hit : as_bit (hits t w (run_stretches (take K lens)) (illegal_transition i)) ≡ as_bit ((guard_true w (guard_from (byte s (b + 4 * i + 2))) && not (is_skipped (reading t w p))) && not (eqb (get_or lens i 0) 0))
     unfolding hits
     illegal-hit =
         ap as_bit (ap₂ ◌&&◌ live

@@ -28,7 +28,7 @@ use Rattle.model.proofs.RawCrosses.{select_of, cross_of_lem, crosses_raw, cross-
 use Rattle.model.proofs.RawExact.{next_place_lem, points_placed, bins_placed, ranges_placed, transitions_placed, raw-exact}
 use Rattle.model.proofs.Lists.{length-row, get_d-row}
 use Rattle.arrays.specs.Flat.{CrossPlace, next_place, cross_place}
-use Rattle.arrays.proofs.CrossPlaces.{placeFrom, place_is, cross-inside, cross-raw}
+use Rattle.arrays.proofs.CrossPlaces.{place_from, place_is, cross-inside, cross-raw}
 use Rattle.products.specs.Single.{BinsSingle, CrossesSingle}
 use Rattle.products.proofs.Single.{accepted-single}
 use Rattle.products.specs.Tokens.{token_point, Legal, TokensLegal}
@@ -36,13 +36,13 @@ use Rattle.products.specs.Marks.{BinsLegal}
 
 -- ---- places, from the first cross on
 
-place-cross : (s : List ℕ) (a : CrossPlace) (i : ℕ) → (placeFrom s a i).cross ≡ a.cross + i * 13
-unfolding placeFrom
+place-cross : (s : List ℕ) (a : CrossPlace) (i : ℕ) → (place_from s a i).cross ≡ a.cross + i * 13
+unfolding place_from
 place-cross s a zero = omega arith
 place-cross s a (suc i) = place-cross s (next_place s a) i ∙ omega arith
 
-single-at : (s : List ℕ) (n : ℕ) (a : CrossPlace) (i : ℕ) → i < n → CrossesSingle s a.cross a.bins a.tokens n → (let p = placeFrom s a i in BinsSingle s p.bins p.tokens (byte s (p.cross + 12)))
-unfolding CrossesSingle placeFrom
+single-at : (s : List ℕ) (n : ℕ) (a : CrossPlace) (i : ℕ) → i < n → CrossesSingle s a.cross a.bins a.tokens n → (let p = place_from s a i in BinsSingle s p.bins p.tokens (byte s (p.cross + 12)))
+unfolding CrossesSingle place_from
 single-at s zero a i h x = absurd (omega arith)
 single-at s (suc n) a zero h x = x.0
 single-at s (suc n) a (suc i) h x = single-at s n (next_place s a) i (omega arith) x.1
@@ -150,22 +150,22 @@ module _ (s : List ℕ) (ps : List Point) (bins : List BinHead) where
     next : ℕ
     read : read_selects s ps bins (parts_of a) a.tokens ≡ got cross next
 
-  abbrev headsFrom : CrossPlace → ℕ → List (CrossParts CrossBinHead)
-  headsFrom a n = cross_heads_at s a.cross a.bins n
+  abbrev heads_from : CrossPlace → ℕ → List (CrossParts CrossBinHead)
+  heads_from a n = cross_heads_at s a.cross a.bins n
 
-  tokens_read : (n : ℕ) (a : CrossPlace) (i : ℕ) → i < n → a.tokens ≤ length s → (xs : List Cross) (end : ℕ) → each (read_selects s ps bins) (headsFrom a n) a.tokens ≡ got xs end → TokensRead (placeFrom s a i)
-  unfolding each cross_heads_at placeFrom
+  tokens_read : (n : ℕ) (a : CrossPlace) (i : ℕ) → i < n → a.tokens ≤ length s → (xs : List Cross) (end : ℕ) → each (read_selects s ps bins) (heads_from a n) a.tokens ≡ got xs end → TokensRead (place_from s a i)
+  unfolding each cross_heads_at place_from
   tokens_read zero a i h room xs end e = absurd (omega arith)
   tokens_read (suc n) a i h room xs end e =
-      go i h (got-cons (read_selects s ps bins (parts_of a) a.tokens) (each (read_selects s ps bins) (headsFrom (next_place s a) n)) e) (tokens_read n (next_place s a))
+      go i h (got-cons (read_selects s ps bins (parts_of a) a.tokens) (each (read_selects s ps bins) (heads_from (next_place s a) n)) e) (tokens_read n (next_place s a))
     where
-      go : (i : ℕ) → i < suc n → Consed (read_selects s ps bins (parts_of a) a.tokens) (each (read_selects s ps bins) (headsFrom (next_place s a) n)) xs end
-          → ((i : ℕ) → i < n → (next_place s a).tokens ≤ length s → (xs : List Cross) (end : ℕ) → each (read_selects s ps bins) (headsFrom (next_place s a) n) (next_place s a).tokens ≡ got xs end → TokensRead (placeFrom s (next_place s a) i))
-          → TokensRead (placeFrom s a i)
+      go : (i : ℕ) → i < suc n → Consed (read_selects s ps bins (parts_of a) a.tokens) (each (read_selects s ps bins) (heads_from (next_place s a) n)) xs end
+          → ((i : ℕ) → i < n → (next_place s a).tokens ≤ length s → (xs : List Cross) (end : ℕ) → each (read_selects s ps bins) (heads_from (next_place s a) n) (next_place s a).tokens ≡ got xs end → TokensRead (place_from s (next_place s a) i))
+          → TokensRead (place_from s a i)
       go zero h (consed x next others e₁ e₂ z) ih = record { room = room; cross = x; next = next; read = e₁ }
       go (suc i) h (consed x next others e₁ e₂ z) ih =
           let r = cross_of_lem s ps bins a.cross a.bins a.tokens room x next e₁ in
-          ih i (omega arith) r.2 others end (ap (each (read_selects s ps bins) (headsFrom (next_place s a) n)) (sym r.1) ∙ e₂)
+          ih i (omega arith) r.2 others end (ap (each (read_selects s ps bins) (heads_from (next_place s a) n)) (sym r.1) ∙ e₂)
 
 -- its bins
 module _ (s : List ℕ) where
@@ -175,15 +175,15 @@ module _ (s : List ℕ) where
     next : ℕ
     read : read_cross_bins s (cross_head s a.cross) a.bins ≡ got parts next
 
-  bins_read : (n : ℕ) (a : CrossPlace) (i : ℕ) → i < n → a.bins ≤ length s → (xs : List (CrossParts CrossBinHead)) (end : ℕ) → each (read_cross_bins s) (rows (cross_head s) 13 a.cross n) a.bins ≡ got xs end → BinsRead (placeFrom s a i)
-  unfolding each rows placeFrom
+  bins_read : (n : ℕ) (a : CrossPlace) (i : ℕ) → i < n → a.bins ≤ length s → (xs : List (CrossParts CrossBinHead)) (end : ℕ) → each (read_cross_bins s) (rows (cross_head s) 13 a.cross n) a.bins ≡ got xs end → BinsRead (place_from s a i)
+  unfolding each rows place_from
   bins_read zero a i h room xs end e = absurd (omega arith)
   bins_read (suc n) a i h room xs end e =
       go i h (got-cons (read_cross_bins s (cross_head s a.cross) a.bins) (each (read_cross_bins s) (rows (cross_head s) 13 (a.cross + 13) n)) e) (bins_read n (next_place s a))
     where
       go : (i : ℕ) → i < suc n → Consed (read_cross_bins s (cross_head s a.cross) a.bins) (each (read_cross_bins s) (rows (cross_head s) 13 (a.cross + 13) n)) xs end
-          → ((i : ℕ) → i < n → (next_place s a).bins ≤ length s → (xs : List (CrossParts CrossBinHead)) (end : ℕ) → each (read_cross_bins s) (rows (cross_head s) 13 (a.cross + 13) n) (next_place s a).bins ≡ got xs end → BinsRead (placeFrom s (next_place s a) i))
-          → BinsRead (placeFrom s a i)
+          → ((i : ℕ) → i < n → (next_place s a).bins ≤ length s → (xs : List (CrossParts CrossBinHead)) (end : ℕ) → each (read_cross_bins s) (rows (cross_head s) 13 (a.cross + 13) n) (next_place s a).bins ≡ got xs end → BinsRead (place_from s (next_place s a) i))
+          → BinsRead (place_from s a i)
       go zero h (consed x next others e₁ e₂ z) ih = record { room = room; parts = x; next = next; read = e₁ }
       go (suc i) h (consed x next others e₁ e₂ z) ih =
           let r = bins_of s a.cross a.bins room x next e₁ in
@@ -233,7 +233,7 @@ record Found (s : List ℕ) (ps : List Point) (bins : List BinHead) (a : CrossPl
 
 module _ (s : List ℕ) (ps : List Point) (bins : List BinHead) where
   found : (at : ℕ) (cs : List Cross) (end : ℕ) → read_crosses s ps bins at ≡ got cs end → (i : ℕ) → i < u16 s at
-      → Found s ps bins (placeFrom s (record { cross = at + 2; bins = cross_bins_from s at + 2; tokens = tokens_from s at + 2 }) i)
+      → Found s ps bins (place_from s (record { cross = at + 2; bins = cross_bins_from s at + 2; tokens = tokens_from s at + 2 }) i)
   unfolding read_crosses read_cross_section read_cross_bin_section read_token_section read_cross
   found at cs end e i h =
       bind_elim _ _ _ e λ hs n₉ e₁ r₁.
@@ -252,7 +252,7 @@ module _ (s : List ℕ) (ps : List Point) (bins : List BinHead) where
       let room₃ : tokens_from s at + 2 ≤ length s = omega (arith, t₃.whole, b.1) in
       let from : CrossPlace = record { cross = at + 2; bins = cross_bins_from s at + 2; tokens = tokens_from s at + 2 } in
       let heads-in = records s 13 (cross_tests s (length ps)) (cross_head s) (cross_head s 0) m₁ c₁ hs n₉ g₁ in
-      let here : c₁ + i * 13 ≡ (placeFrom s from i).cross = ap (λ (x : ℕ). x + i * 13) t₁.ends ∙ sym (place-cross s from i) in
+      let here : c₁ + i * 13 ≡ (place_from s from i).cross = ap (λ (x : ℕ). x + i * 13) t₁.ends ∙ sym (place-cross s from i) in
       let one = heads-in.2.record_at i (omega (arith, heads-in.0, t₁.said)) in
       record {
         head = subst (HeadRead s) here (head_read s (length ps) (c₁ + i * 13) one.whole one.passed);
@@ -309,7 +309,7 @@ module _ (s : List ℕ) (t : Table) (e : decode s ≡ decoded t) (c : ℕ) (h : 
       let good : (p : ℕ) → GoodPoint (get_or ps p no_point) = λ p. subst (λ (x : List Point). GoodPoint (get_or x p no_point)) same (point_at_lem t (well-formed s t e) p) in
       let points-same : (p : ℕ) → get_or ps p no_point ≡ point_at (table_of s) p = λ p. ap (λ (x : List Point). get_or x p no_point) (sym same ∙ ap (λ (u : Table). u.points) own) in
       let there = found s ps hs (count_place s 7) cs n₅ (ap (read_crosses s ps hs) (sym a₄.1) ∙ e₅) c (cross-inside s t e c h) in
-      let here : Found s ps hs (cross_place s c) = subst (Found s ps hs) (ap (λ (x : CrossPlace). placeFrom s x c) (start_is s) ∙ sym (place_is s c)) there in
+      let here : Found s ps hs (cross_place s c) = subst (Found s ps hs) (ap (λ (x : CrossPlace). place_from s x c) (start_is s) ∙ sym (place_is s c)) there in
       let a = cross_place s c in
       record {
         head = here.head;

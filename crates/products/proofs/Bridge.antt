@@ -12,7 +12,7 @@ use borrow.Author.Tests.{le-ltb, ne_eqb}
 use Rattle.model.specs.Lists.{as_bit}
 use Rattle.model.specs.Table.{Table, Select, whole, named, meeting, negated, both, either}
 use Rattle.model.specs.Counters.{CoverBin, no_cover_bin, is_from, meets, selects}
-use Rattle.model.specs.Format.{byte, Token, leaf, notToken, andToken, orToken, token_from, token_record, prefix, expressions}
+use Rattle.model.specs.Format.{byte, Token, leaf, not_token, and_token, or_token, token_from, token_record, prefix, expressions}
 use Rattle.model.specs.Raw.{rows, select_at}
 use Rattle.model.proofs.RawLaws.{length-rows}
 use Rattle.model.proofs.Readers.{All}
@@ -32,7 +32,7 @@ leaf_op (suc (suc (suc zero))) i b lo hi e h = cc
 leaf_op (suc (suc (suc (suc zero)))) i b lo hi e h = cc
 leaf_op (suc (suc (suc (suc (suc n))))) i b lo hi e h = cc
 
-not_op : (op i b lo hi : ℕ) → token_from op i b lo hi ≡ notToken → op ≡ 3
+not_op : (op i b lo hi : ℕ) → token_from op i b lo hi ≡ not_token → op ≡ 3
 not_op zero i b lo hi h = cc
 not_op (suc zero) i b lo hi h = cc
 not_op (suc (suc zero)) i b lo hi h = cc
@@ -40,7 +40,7 @@ not_op (suc (suc (suc zero))) i b lo hi h = refl
 not_op (suc (suc (suc (suc zero)))) i b lo hi h = cc
 not_op (suc (suc (suc (suc (suc n))))) i b lo hi h = cc
 
-and_op : (op i b lo hi : ℕ) → token_from op i b lo hi ≡ andToken → op ≡ 4
+and_op : (op i b lo hi : ℕ) → token_from op i b lo hi ≡ and_token → op ≡ 4
 and_op zero i b lo hi h = cc
 and_op (suc zero) i b lo hi h = cc
 and_op (suc (suc zero)) i b lo hi h = cc
@@ -48,7 +48,7 @@ and_op (suc (suc (suc zero))) i b lo hi h = cc
 and_op (suc (suc (suc (suc zero)))) i b lo hi h = refl
 and_op (suc (suc (suc (suc (suc n))))) i b lo hi h = cc
 
-or_op : (op i b lo hi : ℕ) → token_from op i b lo hi ≡ orToken → 5 ≤ op
+or_op : (op i b lo hi : ℕ) → token_from op i b lo hi ≡ or_token → 5 ≤ op
 or_op zero i b lo hi h = absurd (let z : ◌≡◌ {A = ℕ} 0 1 = cc in omega arith)
 or_op (suc zero) i b lo hi h = absurd (let z : ◌≡◌ {A = ℕ} 0 1 = cc in omega arith)
 or_op (suc (suc zero)) i b lo hi h = absurd (let z : ◌≡◌ {A = ℕ} 0 1 = cc in omega arith)
@@ -122,7 +122,7 @@ module _
   found_not e ih f zero i ks h j z = unfold rows in (cc)
   found_not e ih zero (suc l) i ks h j z = absurd (let y : suc l ≤ 0 = h in omega arith)
   found_not e ih (suc f) (suc l) i ks h j z =
-      let y = split notToken (prefix e ++ ks) l i z in
+      let y = split not_token (prefix e ++ ks) l i z in
       let op = not_op (byte s (k + 20 * i)) _ _ _ _ y.0 in
       let one = ih f l (i + 1) ks (omega arith) (omega arith) y.1 in
       let q : i + 1 + length (prefix e) ≡ i + suc (length (prefix e)) = omega arith in
@@ -148,7 +148,7 @@ module _
   found_both e g he hg f zero i ks h j z = unfold rows in (cc)
   found_both e g he hg zero (suc l) i ks h j z = absurd (let y : suc l ≤ 0 = h in omega arith)
   found_both e g he hg (suc f) (suc l) i ks h j z =
-      let y = split andToken ((prefix e ++ prefix g) ++ ks) l i z in
+      let y = split and_token ((prefix e ++ prefix g) ++ ks) l i z in
       let op = and_op (byte s (k + 20 * i)) _ _ _ _ y.0 in
       let two = found_two e g he hg f l i ks (omega arith) (omega arith) y.1 in
       rw (op, two.0, two.1, sel-both e g)
@@ -158,7 +158,7 @@ module _
   found_either e g he hg f zero i ks h j z = unfold rows in (cc)
   found_either e g he hg zero (suc l) i ks h j z = absurd (let y : suc l ≤ 0 = h in omega arith)
   found_either e g he hg (suc f) (suc l) i ks h j z =
-      let y = split orToken ((prefix e ++ prefix g) ++ ks) l i z in
+      let y = split or_token ((prefix e ++ prefix g) ++ ks) l i z in
       let op = byte s (k + 20 * i) in
       let large = or_op op _ _ _ _ y.0 in
       let two = found_two e g he hg f l i ks (omega arith) (omega arith) y.1 in

@@ -26,7 +26,7 @@ module _ (s : List ℕ) (at k a b : ℕ) (ek : k ≡ byte s at) (ea : a ≡ u64 
   unfolding at_size
   size_pattern z = ap at_size (sym (ne_eqb (byte s at) 0 (λ e. z (ek ∙ e))))
 
-pub ruleset rangeSize = (rules, size_span, size_pattern)
+pub ruleset range_size = (rules, size_span, size_pattern)
 
 -- ---- ranges in a row
 

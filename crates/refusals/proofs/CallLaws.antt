@@ -11,7 +11,7 @@ use borrow.Author.Tests.{le-leb, lt-leb}
 use Rattle.model.specs.Lists.{first_failed}
 use Rattle.model.specs.Table.{Table}
 use Rattle.model.specs.Format.{Outcome, rejected, decoded, decode, is_decoded, accepted, table_from, table_of}
-use Rattle.model.specs.Register.{words_needed, Call, reset, start, stop, askCounter, askUnknown, register_tests, call_tests, accept, refuse, perform, on_table, on_outcome, call}
+use Rattle.model.specs.Register.{words_needed, Call, reset, start, stop, ask_counter, ask_unknown, register_tests, call_tests, accept, refuse, perform, on_table, on_outcome, call}
 use Rattle.model.proofs.Sections.{some_number}
 use Rattle.table.specs.declared.answer.Facts.{Facts}
 use Rattle.table.specs.Check.{facts_from, facts_of}
@@ -70,15 +70,15 @@ module _ (f : Facts) (w : List ℕ) (z : f.number ≡ 0) where
   unfolding call_tests
   start_on r k = table_on f w start z r k.exact k.long
 
-  pub counter_on : (i r : ℕ) → PartRefusal f w i f.counters r → CallRefusal f w (askCounter i) r
+  pub counter_on : (i r : ℕ) → PartRefusal f w i f.counters r → CallRefusal f w (ask_counter i) r
   unfolding call_tests
   counter_on i r k =
-      table_on f w (askCounter i) z r (λ t d. k.exact t d ∙ ap (λ (n : ℕ). first_failed (register_tests t w ++ (ltb i n, 14) ∷ [])) d.counters) k.long
+      table_on f w (ask_counter i) z r (λ t d. k.exact t d ∙ ap (λ (n : ℕ). first_failed (register_tests t w ++ (ltb i n, 14) ∷ [])) d.counters) k.long
 
-  pub unknown_on : (i r : ℕ) → PartRefusal f w i f.points r → CallRefusal f w (askUnknown i) r
+  pub unknown_on : (i r : ℕ) → PartRefusal f w i f.points r → CallRefusal f w (ask_unknown i) r
   unfolding call_tests
   unknown_on i r k =
-      table_on f w (askUnknown i) z r (λ t d. k.exact t d ∙ ap (λ (n : ℕ). first_failed (register_tests t w ++ (ltb i n, 14) ∷ [])) d.points) k.long
+      table_on f w (ask_unknown i) z r (λ t d. k.exact t d ∙ ap (λ (n : ℕ). first_failed (register_tests t w ++ (ltb i n, 14) ∷ [])) d.points) k.long
 
 -- a stop has the tests of a start
 pub stop-start : (f : Facts) (w : List ℕ) (r : ℕ) → CallRefusal f w start r → CallRefusal f w stop r

@@ -7,7 +7,7 @@ use Rattle.model.specs.Sampling.{value_word, unknown_word}
 use Rattle.model.specs.Figures.{item_count}
 use Rattle.model.specs.Format.{byte, number_of, Outcome, rejected, decoded, decode}
 use Rattle.model.specs.Raw.{records_place}
-use Rattle.model.specs.Register.{point_total, counter_total, run_total, illegal_total, flag_of, samples_of, Call, askItem, register_tests, last_sample, call_tests}
+use Rattle.model.specs.Register.{point_total, counter_total, run_total, illegal_total, flag_of, samples_of, Call, ask_item, register_tests, last_sample, call_tests}
 use Rattle.table.specs.declared.answer.Facts.{Facts}
 use Rattle.table.specs.Check.{facts_of}
 
@@ -45,7 +45,7 @@ pub record PartRefusal (f : Facts) (w : List ℕ) (i n : ℕ) (r : ℕ) : Type 0
   pub inside : r ≡ 0 → i < n
 
 pub record ItemRefusal (f : Facts) (w : List ℕ) (i items : ℕ) (r : ℕ) : Type 0 where
-  pub exact : (t : Table) → Describes f t → items ≡ item_count t → r ≡ first_failed (call_tests t w (askItem i))
+  pub exact : (t : Table) → Describes f t → items ≡ item_count t → r ≡ first_failed (call_tests t w (ask_item i))
   pub long : r ≡ 0 → words_of f ≤ length w
   pub inside : r ≡ 0 → i < items
 

@@ -3,7 +3,7 @@
 
 ghost use Rattle.std.specs.Prelude.{◌≡◌, cond, ◌+◌, ◌-◌, ◌^◌, ◌<◌, ◌≤◌, ltb, length, take, drop};
 ghost use Rattle.model.specs.Lists.{all};
-ghost use Rattle.model.specs.Register.{samples_of, reset, start, askCounter, askUnknown};
+ghost use Rattle.model.specs.Register.{samples_of, reset, start, ask_counter, ask_unknown};
 ghost use Rattle.table.specs.Check.{Few};
 ghost use Rattle.refusals.specs.Refusals.{at_most, consistent_at, in_width_at, in_widths_at, own_refusal, RegisterRefusal, PartRefusal, ItemRefusal, CallRefusal};
 
@@ -158,7 +158,7 @@ pub fn start_refusal(register: &[u32], f: Facts) -> u32
 
 pub fn counter_refusal(register: &[u32], place: usize, f: Facts) -> u32
     requires { Few f }
-    ensures call_refusal { CallRefusal f register.now (askCounter place) result }
+    ensures call_refusal { CallRefusal f register.now (ask_counter place) result }
     ensures place_lt_counters { result ≡ 0 → place < f.counters }
 {
     let number = f.number;
@@ -170,7 +170,7 @@ pub fn counter_refusal(register: &[u32], place: usize, f: Facts) -> u32
 
 pub fn unknown_refusal(register: &[u32], point: usize, f: Facts) -> u32
     requires { Few f }
-    ensures call_refusal { CallRefusal f register.now (askUnknown point) result }
+    ensures call_refusal { CallRefusal f register.now (ask_unknown point) result }
     ensures point_lt_points { result ≡ 0 → point < f.points }
 {
     let number = f.number;

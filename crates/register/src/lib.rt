@@ -67,8 +67,8 @@ pub fn stop(table: &[u8], register: &mut [u32]) -> u32
 
 // The count of a counter.
 pub fn place_count(table: &[u8], register: &[u32], place: usize) -> Counted
-    ensures number_value { result.number ≡ (Model.call table.now register.now (Model.askCounter place)).response.number }
-    ensures count_value { Model.counted result.count ≡ (Model.call table.now register.now (Model.askCounter place)).response.answer }
+    ensures number_value { result.number ≡ (Model.call table.now register.now (Model.ask_counter place)).response.number }
+    ensures count_value { Model.counted result.count ≡ (Model.call table.now register.now (Model.ask_counter place)).response.answer }
 {
     let f = facts(table);
     let number = counter_refusal(register, place, f);
@@ -87,8 +87,8 @@ pub fn place_count(table: &[u8], register: &[u32], place: usize) -> Counted
 
 // The count of a point's unknown readings.
 pub fn unknown_count(table: &[u8], register: &[u32], point: usize) -> Counted
-    ensures number_value { result.number ≡ (Model.call table.now register.now (Model.askUnknown point)).response.number }
-    ensures count_value { Model.counted result.count ≡ (Model.call table.now register.now (Model.askUnknown point)).response.answer }
+    ensures number_value { result.number ≡ (Model.call table.now register.now (Model.ask_unknown point)).response.number }
+    ensures count_value { Model.counted result.count ≡ (Model.call table.now register.now (Model.ask_unknown point)).response.answer }
 {
     let f = facts(table);
     let number = unknown_refusal(register, point, f);

@@ -13,7 +13,7 @@ use borrow.Author.Tests.{leb-true, ltb-true, ne_eqb}
 use Rattle.model.specs.Lists.{up_from, keep, pair_up, as_bit}
 use Rattle.model.specs.Table.{Point, Table}
 use Rattle.model.specs.Values.{bias, read_value}
-use Rattle.model.specs.Counters.{Counter, value_bin, default_bin, illegal_bin, transition, illegalTransition, crossBin, illegalCross, product, counters, is_illegal, point_at}
+use Rattle.model.specs.Counters.{Counter, value_bin, default_bin, illegal_bin, transition, illegal_transition, cross_bin, illegal_cross, product, counters, is_illegal, point_at}
 use Rattle.model.specs.Sampling.{skipped, unknown, known, is_unknown, reading, Stretches, hits, adds_unknown, value_word, unknown_word, guard_true}
 use Rattle.model.specs.Register.{counter_total, point_total, run_total, words_needed, illegal_total, flag_of, samples_of, counts_of, unknowns_of, runs_of, sequences, next_runs, all_lengths, run_stretches, sampled_words, report_words, sampled_report, long_enough, in_widths}
 use Rattle.model.proofs.Booleans.{and_left}
@@ -118,9 +118,9 @@ kind-illegal (value_bin c) = refl
 kind-illegal (default_bin b) = refl
 kind-illegal (illegal_bin b) = refl
 kind-illegal (transition b) = refl
-kind-illegal (illegalTransition b) = refl
-kind-illegal (crossBin c i) = refl
-kind-illegal (illegalCross c i) = refl
+kind-illegal (illegal_transition b) = refl
+kind-illegal (cross_bin c i) = refl
+kind-illegal (illegal_cross c i) = refl
 kind-illegal (product c cs) = refl
 
 pub flags-reported : (t : Table) (s : List ℕ) (m : Stretches) (cs : List Counter)

@@ -89,8 +89,8 @@ module _ (s : List ℕ) (ok : accepted s ≡ true) (p : ℕ) where
   abbrev low : ℕ
   low = lowest (point_at (table_of s) p)
 
-  abbrev excludedIn : List Range
-  excludedIn = excluded_at s (records_place s 1) (records_place s 2) (record_count s 1) p
+  abbrev excluded_in : List Range
+  excluded_in = excluded_at s (records_place s 1) (records_place s 2) (record_count s 1) p
 
   pub bins_are : (table_of s).value_bins ≡ bins_at s (records_place s 1) (records_place s 2) (record_count s 1)
   unfolding raw_table
@@ -99,7 +99,7 @@ module _ (s : List ℕ) (ok : accepted s ≡ true) (p : ℕ) where
   formed : WellFormed (table_of s)
   formed = layout_well-formed s (table_of s) (length s) (accepted-layout s ok)
 
-  spans_fit : all (fits_from low) excludedIn ≡ true
+  spans_fit : all (fits_from low) excluded_in ≡ true
   spans_fit = ap (λ (bs : List ValueBin). all (fits_from low) (ranges_of excludes p bs)) (sym bins_are) ∙ excluded-fit (table_of s).points p (point_at_lem (table_of s) formed p).narrow (table_of s).value_bins formed.bins
 
   -- what `collect` and `spans_of` ask
@@ -127,8 +127,8 @@ module _ (s : List ℕ) (ok : accepted s ≡ true) (p : ℕ) where
       }
 
   -- A value of the type lies in one of the spans exactly when the model excludes it.
-  pub spans_exact : (ws : List ℕ) → Settled (words_from low excludedIn) ws → (v : ℕ) → in_type (point_at (table_of s) p) v ≡ true → held_by ws (v - low) ≡ excluded_value (table_of s) p v
+  pub spans_exact : (ws : List ℕ) → Settled (words_from low excluded_in) ws → (v : ℕ) → in_type (point_at (table_of s) p) v ≡ true → held_by ws (v - low) ≡ excluded_value (table_of s) p v
   spans_exact ws settled v e =
       let h = leb-true low v (and_left (leb low v) (leb v (highest (point_at (table_of s) p))) e) in
-      settled.same (v - low) ∙ words-held low excludedIn v spans_fit h
+      settled.same (v - low) ∙ words-held low excluded_in v spans_fit h
       ∙ ap (λ (bs : List ValueBin). in_ranges (ranges_of excludes p bs) v) (sym bins_are) ∙ sym (excluded-ranges (table_of s) p v)

@@ -7,7 +7,7 @@ use native.Mathlib.Omega.{arith}
 use lib.ListN.{length, replicate}
 use lib.Seq.{take_all}
 use Rattle.model.specs.Lists.{up_from}
-use Rattle.model.specs.Table.{Form, single, perValue, fixed, Range, Table}
+use Rattle.model.specs.Table.{Form, single, per_value, fixed, Range, Table}
 use Rattle.model.specs.Values.{lowest, bin_count, distinct_values}
 use Rattle.model.specs.Counters.{point_at}
 use Rattle.model.proofs.WellFormed.{WellFormed}
@@ -20,7 +20,7 @@ pub counted : (t : Table) (p : ℕ) (w : WellFormed t) (f : Form) (rs : List Ran
 unfolding cover_count
 counted t p w single rs h few = refl
 counted t p w (fixed n) rs h few = refl
-counted t p w perValue rs h few = sym (ap length (first_exact (point_at t p) (point_at_lem t w p) rs h ∙ take_all 257 (distinct_values (point_at t p) rs) (omega arith)))
+counted t p w per_value rs h few = sym (ap length (first_exact (point_at t p) (point_at_lem t w p) rs h ∙ take_all 257 (distinct_values (point_at t p) rs) (omega arith)))
 
 -- so many bins, numbered, of which one thing is said
 pub map_same : {A B : Type 0} (f : A → B) (g : ℕ → A) (b : B) → ((k : ℕ) → f (g k) ≡ b) → (i n : ℕ) → map f (map g (up_from i n)) ≡ replicate n b

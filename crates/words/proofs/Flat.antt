@@ -5,7 +5,7 @@ use mathlib.Core.Path.{◌≡◌, refl, sym, ap, ◌∙◌}
 use mathlib.Core.List.{List, [], ◌∷◌, ◌++◌}
 use native.Mathlib.Omega.{arith}
 use Rattle.model.specs.Lists.{sum_of, concat_of}
-use Rattle.model.specs.Format.{FaultClass, tooLong, cut, count, value, unused, field, disagreement, leftover, limits, number_of, Read, refused, got, Reader, and_then, times, each}
+use Rattle.model.specs.Format.{FaultClass, too_long, cut, count, value, unused, field, disagreement, leftover, limits, number_of, Read, refused, got, Reader, and_then, times, each}
 use Rattle.model.specs.Raw.{rows}
 use Rattle.words.specs.Verdicts.{verdict, verdict_of}
 use Rattle.words.specs.declared.verdicts.Verdict.{Verdict}
@@ -37,7 +37,7 @@ goes_assoc v k l = go v.number refl
 
 refused-stays : (c : FaultClass) (at : ℕ) (k : ℕ → Verdict) → verdict (number_of c) at ≡ goes_on (verdict (number_of c) at) k
 unfolding goes_on unless_fault
-refused-stays tooLong at k = refl
+refused-stays too_long at k = refl
 refused-stays cut at k = refl
 refused-stays count at k = refl
 refused-stays value at k = refl

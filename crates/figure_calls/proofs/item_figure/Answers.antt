@@ -1,6 +1,6 @@
 use mathlib.Core.Path.{sym, ap, ◌∙◌}
 use native.Mathlib.Omega.{arith}
-use Rattle.model.specs.Register.{Effect, accept, askItem}
+use Rattle.model.specs.Register.{Effect, accept, ask_item}
 use Rattle.figure_calls.specs.Answers.{item_answer}
 use Rattle.refusals.proofs.CallLaws.{table_refuses, table-known, tests-refuse, tests-accept, known-accepted}
 use Rattle.figure_calls.proofs.FigureLaws.{known-long, items-known, item-answer}
@@ -8,7 +8,7 @@ use Rattle.figure_calls.proofs.item_figure.Goals as goal
 
 pub returns-then-own-ne0 : goal.returns-then-own-ne0
 returns-then-own-ne0 c =
-    let e = table_refuses _ _ c.facts-f.ensures.value c.if-own-ne0.true c.args.register.now (askItem c.args.item) in
+    let e = table_refuses _ _ c.facts-f.ensures.value c.if-own-ne0.true c.args.register.now (ask_item c.args.item) in
     record { number_value = ap (λ (x : Effect). x.response.number) (sym e); figure_value = ap (λ (x : Effect). x.response.answer) (sym e) }
 
 pub returns-then-number-ne0 : goal.returns-then-number-ne0
@@ -17,7 +17,7 @@ returns-then-number-ne0 c =
     let z = c.if-own-ne0.false in
     let t = table-known _ _ told z in
     let n = items-known _ _ c.layout_of-l.ensures.value t.0 in
-    let e = tests-refuse _ _ told z c.args.register.now (askItem c.args.item) _ (c.item_refusal-number.ensures.exact _ t.1 n) c.if-number-ne0.true in
+    let e = tests-refuse _ _ told z c.args.register.now (ask_item c.args.item) _ (c.item_refusal-number.ensures.exact _ t.1 n) c.if-number-ne0.true in
     record { number_value = ap (λ (x : Effect). x.response.number) (sym e); figure_value = ap (λ (x : Effect). x.response.answer) (sym e) }
 
 pub item_figure-figure-requires : goal.item_figure-figure-requires
@@ -36,5 +36,5 @@ returns c =
     let z = c.if-own-ne0.false in
     let t = table-known _ _ told z in
     let n = items-known _ _ c.layout_of-l.ensures.value t.0 in
-    let e = tests-accept _ _ told z c.args.register.now (askItem c.args.item) _ (c.item_refusal-number.ensures.exact _ t.1 n) c.if-number-ne0.false in
+    let e = tests-accept _ _ told z c.args.register.now (ask_item c.args.item) _ (c.item_refusal-number.ensures.exact _ t.1 n) c.if-number-ne0.false in
     record { number_value = ap (λ (x : Effect). x.response.number) (sym e); figure_value = ap item_answer c.item_figure-figure.ensures ∙ item-answer _ ∙ ap (λ (x : Effect). x.response.answer) (sym e) }

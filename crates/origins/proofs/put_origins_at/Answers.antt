@@ -19,13 +19,16 @@ put_point_origins-requires c =
     let q = c.requires in
     let s = a.t.now in
     let m = q.2 in
-    let o = q.4 in record { points_bound = (omega (arith, m.points), omega (arith, m.transitions), m.transition_count, wide_at s q.0 a.p q.3 a.l q.1); bins_bound = (
+    let o = q.4 in record {
+      points_bound = (omega (arith, m.points), omega (arith, m.transitions), m.transition_count, wide_at s q.0 a.p q.3 a.l q.1);
+      bins_bound = (
         o.near,
         o.near_ranges,
         own-after s q.0 a.p q.3 a.l q.1 a.own o.part,
         own-few s q.0 a.p q.3 a.l q.1 a.own o.part,
         omega (arith, origins-count s q.0 a.p q.3 a.l q.1 a.own o.part, few_covers s q.0 a.p q.3, few_points s q.0, q.5),
-      ) }
+      );
+    }
 
 pub returns : goal.returns
 returns c =

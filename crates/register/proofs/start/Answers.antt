@@ -31,7 +31,10 @@ returns c =
     let k = c.start_refusal-number.ensures in
     let z = c.if-number-ne0.false in
     let w = c.args.register.now in
-    let e = call_accepted _ _ c.facts-f.ensures.value w start _ k z in record { value = ap (λ (x : Effect). x.response.number) (sym e.0); register_after = c.run.ensures
+    let e = call_accepted _ _ c.facts-f.ensures.value w start _ k z in record {
+      value = ap (λ (x : Effect). x.response.number) (sym e.0);
+      register_after = c.run.ensures
           ∙ restart_words _ _ e.1 w (k.long z)
           ∙ start_stopped _ w c.if-register-eq1.false
-          ∙ ap (λ (x : Effect). x.words) (sym e.0) }
+          ∙ ap (λ (x : Effect). x.words) (sym e.0);
+    }

@@ -1,50 +1,50 @@
 use borrow.Author.Rules.{rules}
-use Rattle.check_transitions.proofs.StepRangeLaws.{bins_on, rangesEach}
+use Rattle.check_transitions.proofs.StepRangeLaws.{bins_on, ranges_each}
 use Rattle.check_transitions.proofs.step_ranges.ranges_each.Goals as goal
 
 pub loop-i-init : goal.loop-i-init
-loop-i-init c = search rangesEach
+loop-i-init c = search ranges_each
 
 pub overflow_add-bin : goal.overflow_add-bin
-overflow_add-bin c = search rangesEach
+overflow_add-bin c = search ranges_each
 
 pub byte-m-requires : goal.byte-m-requires
-byte-m-requires c = search rangesEach
+byte-m-requires c = search ranges_each
 
 pub overflow_cast-m : goal.overflow_cast-m
-overflow_cast-m c = search rangesEach
+overflow_cast-m c = search ranges_each
 
 pub sum_bytes-k-requires : goal.sum_bytes-k-requires
-sum_bytes-k-requires c = search rangesEach
+sum_bytes-k-requires c = search ranges_each
 
 pub bin_ranges-r-requires : goal.bin_ranges-r-requires
-bin_ranges-r-requires c = search rangesEach
+bin_ranges-r-requires c = search ranges_each
 
 pub returns-then-r-ne0 : goal.returns-then-r-ne0
-returns-then-r-ne0 c = search rangesEach
+returns-then-r-ne0 c = search ranges_each
 
 pub overflow_add-bin-in-loop-i : goal.overflow_add-bin-in-loop-i
-overflow_add-bin-in-loop-i c = search rangesEach
+overflow_add-bin-in-loop-i c = search ranges_each
 
 pub overflow_add-sequence : goal.overflow_add-sequence
-overflow_add-sequence c = search rangesEach
+overflow_add-sequence c = search ranges_each
 
 pub overflow_mul-step : goal.overflow_mul-step
-overflow_mul-step c = search rangesEach
+overflow_mul-step c = search ranges_each
 
 pub overflow_add-step : goal.overflow_add-step
-overflow_add-step c = search rangesEach
+overflow_add-step c = search ranges_each
 
 pub overflow_add-i : goal.overflow_add-i
-overflow_add-i c = search rangesEach
+overflow_add-i c = search ranges_each
 
 pub loop-i-smaller : goal.loop-i-smaller
-loop-i-smaller c = search rangesEach
+loop-i-smaller c = search ranges_each
 
 pub loop-i-preserved : goal.loop-i-preserved
 loop-i-preserved c = (
   search rules,
-  search rangesEach,
+  search ranges_each,
   search rules,
   search rules,
   search rules,
@@ -53,7 +53,7 @@ loop-i-preserved c = (
 )
 
 pub sound-requires : goal.sound-requires
-sound-requires c = search rangesEach
+sound-requires c = search ranges_each
 
 pub returns : goal.returns
-returns c = search rangesEach
+returns c = search ranges_each

@@ -1,9 +1,9 @@
-use Rattle.check_transitions.proofs.StepLaws.{steps_on, sequenceSteps}
+use Rattle.check_transitions.proofs.StepLaws.{steps_on, sequence_steps}
 use borrow.Author.Rules.{rules}
 use Rattle.check_transitions.proofs.steps.sequence_steps.Goals as goal
 
 pub returns-then-r-ne0 : goal.returns-then-r-ne0
-returns-then-r-ne0 c = search sequenceSteps
+returns-then-r-ne0 c = search sequence_steps
 
 pub returns : goal.returns
 returns c =

@@ -22,8 +22,8 @@ use Rattle.crosses.proofs.MarkLaws.{Here, start_none, marks-room, part_room, at_
 use Rattle.crosses.proofs.all.put_crosses.Goals as goal
 
 -- the total does not look at it
-anyStretches : Stretches
-anyStretches = record { lengths = λ p. []; matched = λ b l. false }
+any_stretches : Stretches
+any_stretches = record { lengths = λ p. []; matched = λ b l. false }
 
 pub loop-c-init : goal.loop-c-init
 loop-c-init c =
@@ -203,4 +203,4 @@ returns c =
     let tell : Bool → Type 0 = λ b. Tells (gate_of b t w) t a.gate.now in
     let flag : Stretches → Bool → List ℕ = λ m b. put a.ask.at (flags_of b t w m (all_cross_counters t)) a.flags.now in
     let all : (m : Stretches) → tell total → l.flags ≡ flag m total = λ m x. flags_end t n l.c l.at l.flags total w m c.loop-c-test.false ∙ i.7 m x in
-    record { value = omega (arith, i.6, ap length z); raised = λ e x m. all m (subst tell (sym e) x) ∙ ap (flag m) e; counted = λ e x. all anyStretches (subst tell (sym e) x) ∙ ap (flag anyStretches) e }
+    record { value = omega (arith, i.6, ap length z); raised = λ e x m. all m (subst tell (sym e) x) ∙ ap (flag m) e; counted = λ e x. all any_stretches (subst tell (sym e) x) ∙ ap (flag any_stretches) e }

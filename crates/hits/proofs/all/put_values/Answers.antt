@@ -53,13 +53,16 @@ put_value_hits-n-requires c =
     let a = c.args in
     let p = c.requires in
     let n = counted a.t.now p.t_value.0 a.own.point p.t_value.2 a.rows.now p.found.2 in
-    let o = a.own.point in record { t_value = (p.t_value.0, p.t_value.1, p.t_value.2, p.t_value.3, omega (arith, tail-length a.at a.hits.now, p.t_value.4)); in_bounds = (
+    let o = a.own.point in record {
+      t_value = (p.t_value.0, p.t_value.1, p.t_value.2, p.t_value.3, omega (arith, tail-length a.at a.hits.now, p.t_value.4));
+      in_bounds = (
         omega (arith, tail-length (257 * o) a.found.now, p.t_value.2, p.found.1),
         found-row (table_of a.t.now) a.sample.now o a.found.now p.found.0 p.t_value.2,
         omega (arith, tail-length (258 * o + 2) a.rows.now, n.few, p.t_value.2, p.found.3),
         covers_row (table_of a.t.now) o p.t_value.2 a.rows.now p.found.2,
         plains_row (table_of a.t.now) o p.t_value.2 a.rows.now p.found.2 _ _ n.parts n.plains,
-      ) }
+      );
+    }
 
 pub overflow_add-result : goal.overflow_add-result
 overflow_add-result c =

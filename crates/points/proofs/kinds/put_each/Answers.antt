@@ -114,7 +114,10 @@ returns c =
     let m = a.l.point_count in
     let n = point_number s g.good a.l g.placed in
     let e : l.p ≡ m = omega arith in
-    let k : l.c ≡ point_start t m = l.invariant.3 ∙ ap (point_start t) e in record { value = k ∙ start_last t m n.0; kinds_after = (
+    let k : l.c ≡ point_start t m = l.invariant.3 ∙ ap (point_start t) e in record {
+      value = k ∙ start_last t m n.0;
+      kinds_after = (
         sym (kinds_none t m l.p l.c l.kinds (omega arith)) ∙ l.invariant.5,
         starts_last t m l.c l.starts (omega (arith, n, l.invariant.2, p.2)) k ∙ ap (λ (i : ℕ). put i (starts_from t i (suc m - i)) l.starts) (sym e) ∙ l.invariant.6,
-      ) }
+      );
+    }

@@ -46,12 +46,15 @@ put_meets-requires c =
     let ready = pre.ready.0 in
     let legal = pre.ready.1 in
     let op : byte s a.k.at ≡ 2 = sym c.byte-op.ensures ∙ c.if-op-eq2.true in
-    let ep : c.byte-p.result ≡ token_point s a.k.cross a.k.at = c.byte-p.ensures ∙ ap (λ (x : ℕ). get_or s (a.k.cross + 1 + x) 0) ei in record { t_value = (ready.whole, subst (λ (x : ℕ). x < point_total (table_of s)) (sym ep) (point_inside s a.k.cross a.k.at a.s a.plan.now a.lists.now pre.ready.0 pre.ready.1), ready.planned); parts_value = (
+    let ep : c.byte-p.result ≡ token_point s a.k.cross a.k.at = c.byte-p.ensures ∙ ap (λ (x : ℕ). get_or s (a.k.cross + 1 + x) 0) ei in record {
+      t_value = (ready.whole, subst (λ (x : ℕ). x < point_total (table_of s)) (sym ep) (point_inside s a.k.cross a.k.at a.s a.plan.now a.lists.now pre.ready.0 pre.ready.1), ready.planned);
+      parts_value = (
         parts ∙ ap (λ (x : ℕ). length (covers (table_of s) x)) (sym ep),
         omega (arith, pre.row_in_bounds.0, parts, parts_few s a.k.cross a.k.at a.s a.plan.now a.lists.now pre.ready.0 pre.ready.1),
         subst (λ (x : ℕ). in_type (point_at (table_of s) x) c.field-lo.result ≡ true) (sym ep) (subst (λ (x : ℕ). in_type (point_at (table_of s) (token_point s a.k.cross a.k.at)) x ≡ true) (sym c.field-lo.ensures) (legal.low op)),
         subst (λ (x : ℕ). in_type (point_at (table_of s) x) c.field-hi.result ≡ true) (sym ep) (subst (λ (x : ℕ). in_type (point_at (table_of s) (token_point s a.k.cross a.k.at)) x ≡ true) (sym c.field-hi.ensures) (legal.high op)),
-      ) }
+      );
+    }
 
 pub returns-then-op-eq2 : goal.returns-then-op-eq2
 returns-then-op-eq2 c =
