@@ -1,7 +1,10 @@
 // Reading files through a buffer: a read that fails is told from the end.
 ghost use Rattle.std.specs.Prelude.{◌+◌, ◌≤◌, ◌≡◌, length, take, drop};
-ghost use Rattle.io.specs.Counts.{IsPrefixLen};
 ghost use Rattle.arrays.specs.Put.{put};
+ghost use Rattle.streams.specs.Counts.{IsPrefixLen};
+
+use std::io;
+use std::io::{ErrorKind, Read};
 
 // How often a read that a signal interrupts is tried before it counts as failed.
 const TRIES: u32 = 100000000;
@@ -12,58 +15,60 @@ pub fn least(a: usize, b: usize) -> usize
     if a < b { a } else { b }
 }
 
-// How many bytes came, and whether a read failed.
+// How many bytes came, and the error of a read that failed.
 #[derive(Clone, Copy)]
 pub struct Filled {
     pub count: usize,
-    pub failed: bool,
+    pub error: Option<io::Error>,
 }
 
 // One read: 0 bytes at the end, or where it failed.
-fn read_some(part: &mut [u8], fd: i32) -> Filled
+fn read_some<R: Read>(part: &mut [u8], file: &mut R) -> Filled
     ensures { result.count ≤ length part.new }
 {
-    let mut tries = 0;
-    while tries < TRIES {
-        let got = libc::read(fd, part);
-        if got >= 0 {
-            return Filled {
-                count: io::count(got, part),
-                failed: false,
-            };
-        }
-        if os::errno() != libc::EINTR {
-            break;
+    let mut tries = 1;
+    loop {
+        match file.read(part) {
+            Ok(n) => {
+                return Filled {
+                    count: n,
+                    error: None,
+                };
+            }
+            Err(e) => {
+                if (tries >= TRIES) | (e.kind() != ErrorKind::Interrupted) {
+                    return Filled {
+                        count: 0,
+                        error: Some(e),
+                    };
+                }
+            }
         }
         tries += 1;
-    }
-    Filled {
-        count: 0,
-        failed: true,
     }
 }
 
 // Reads on behind the first have bytes until there are want, and more if they come at once; fewer
 // only where the file ended or a read failed.
-pub fn fill(buf: &mut [u8], fd: i32, have: usize, want: usize) -> Filled
+pub fn fill<R: Read>(buf: &mut [u8], file: &mut R, have: usize, want: usize) -> Filled
     requires { have ≤ length buf.old }
     ensures { IsPrefixLen result.count buf.new }
 {
     let mut done = have;
     while done < want {
-        let some = read_some(&mut buf[done..], fd);
+        let some = read_some(&mut buf[done..], file);
         let n = some.count;
         if n == 0 {
             return Filled {
                 count: done,
-                failed: some.failed,
+                error: some.error,
             };
         }
         done += n;
     }
     Filled {
         count: done,
-        failed: false,
+        error: None,
     }
 }
 
