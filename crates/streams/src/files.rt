@@ -3,6 +3,7 @@ ghost use Rattle.std.specs.Prelude.{◌+◌, ◌≤◌, ◌≡◌, length, take,
 ghost use Rattle.arrays.specs.Put.{put};
 ghost use Rattle.streams.specs.Counts.{IsPrefixLen};
 
+use std::fs::File;
 use std::io;
 use std::io::{ErrorKind, Read};
 
@@ -13,6 +14,17 @@ pub fn least(a: usize, b: usize) -> usize
     ensures { (result ≤ a) × (result ≤ b) }
 {
     if a < b { a } else { b }
+}
+
+// The system's number for text that is not text.
+const NOT_TEXT: i32 = 84;
+
+// A file to be read. std opens a file by a name that is UTF-8; any other name fails.
+pub fn open(rt: &HostRuntime, path: &[u8]) -> io::Result<File> {
+    match std::str::from_utf8(path) {
+        Ok(name) => File::open(rt, name),
+        Err(_) => Err(io::Error::from_raw_os_error(NOT_TEXT)),
+    }
 }
 
 // How many bytes came, and the error of a read that failed.

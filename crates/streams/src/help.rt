@@ -2,7 +2,7 @@
 use crate::errors::write_error;
 use crate::out::{Out, say};
 use crate::text::{end_line, say_refusal};
-use std::env::Env;
+use std::env::{Env, FillError};
 
 pub fn say_usage(rt: &HostRuntime) {
     write_error(rt, b"usage: replay TABLE LOG   (replay --help explains)\n");
@@ -121,4 +121,10 @@ pub fn first_is(rt: &HostRuntime, text: &[u8]) -> bool {
         Ok(n) => &word[..n] == text,
         Err(_) => false,
     }
+}
+
+// There is an argument of that number.
+pub fn has_arg(rt: &HostRuntime, i: usize) -> bool {
+    let mut none = [0u8; 0];
+    !matches!(rt.arg(i, &mut none), Err(FillError::NotPresent))
 }
