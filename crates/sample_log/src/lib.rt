@@ -3,8 +3,9 @@
 
 pub mod samples;
 
-ghost use Rattle.std.specs.Prelude.{◌≡◌, ◌+◌, ◌≤◌, ◌<◌, length};
-ghost use Rattle.sample_log.specs.Held.{Held, Kept, Onward, Standing};
+ghost use Rattle.std.specs.Prelude.{None, ◌≡◌, ◌+◌, ◌≤◌, ◌<◌, length};
+ghost use Rattle.std.specs.Io.KnownBytes.{IsAtEnd, Keeps};
+ghost use Rattle.sample_log.specs.Held.{Held, Kept, Onward, Standing, left_of};
 
 use std::io;
 use std::io::Read;
@@ -89,7 +90,8 @@ pub fn outcome(log: Log, number: u32) -> Log
 
 // How a log stands after a read of its bytes.
 fn state_after(got: Filled, want: usize) -> u8
-    ensures { result ≡ 0 → want ≤ got.count }
+    ensures going { result ≡ 0 → want ≤ got.count }
+    ensures cut { result ≡ CUT → (got.count < want) × (got.error ≡ None) }
 {
     if want <= got.count {
         return GOING;
@@ -113,7 +115,9 @@ fn moved(log: Log, from: usize, to: usize, state: u8) -> Log
 // Reads on until the next want bytes stand in the buffer; fewer where the log ends or a read fails.
 pub fn have_bytes<R: Read>(bytes: &mut [u8], file: &mut R, log: Log, want: usize) -> Log
     requires { Held log (length bytes.old) }
-    ensures { Held result (length bytes.new) × Standing want result × (result.points ≡ log.points) × (result.entry ≡ log.entry) }
+    ensures log { Held result (length bytes.new) × Standing want result × (result.points ≡ log.points) × (result.entry ≡ log.entry) }
+    ensures bytes { Keeps (left_of log bytes.old (R.remaining file.old)) (left_of result bytes.new (R.remaining file.new)) }
+    ensures cut { result.state ≡ CUT → want ≤ length bytes.new → IsAtEnd (R.remaining file.new) }
 {
     let from = log.from;
     let to = log.to;

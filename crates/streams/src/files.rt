@@ -1,5 +1,6 @@
 // Reading files through a buffer: a read that fails is told from the end.
-ghost use Rattle.std.specs.Prelude.{◌+◌, ◌≤◌, ◌≡◌, length, take, drop};
+ghost use Rattle.std.specs.Prelude.{◌+◌, ◌<◌, ◌≤◌, ◌≡◌, length, take, drop};
+ghost use Rattle.std.specs.Io.KnownBytes.{Consumes, IsAtEnd};
 ghost use Rattle.arrays.specs.Put.{put};
 ghost use Rattle.streams.specs.Counts.{IsPrefixLen};
 
@@ -36,7 +37,9 @@ pub struct Filled {
 
 // One read: 0 bytes at the end, or where it failed.
 fn read_some<R: Read>(part: &mut [u8], file: &mut R) -> Filled
-    ensures { result.count ≤ length part.new }
+    ensures count { result.count ≤ length part.new }
+    ensures bytes { Consumes (R.remaining file.old) (R.remaining file.new) (take result.count part.new) }
+    ensures end { result.error ≡ None → result.count ≡ 0 → 0 < length part.new → IsAtEnd (R.remaining file.new) }
 {
     let mut tries = 1;
     loop {
@@ -60,15 +63,30 @@ fn read_some<R: Read>(part: &mut [u8], file: &mut R) -> Filled
     }
 }
 
+// One read, behind the first bytes.
+fn read_behind<R: Read>(buf: &mut [u8], file: &mut R, at: usize) -> Filled
+    requires { at ≤ length buf.old }
+    ensures count { at + result.count ≤ length buf.new }
+    ensures front { take at buf.new ≡ take at buf.old }
+    ensures bytes { Consumes (R.remaining file.old) (R.remaining file.new) (take result.count (drop at buf.new)) }
+    ensures end { result.error ≡ None → result.count ≡ 0 → at < length buf.new → IsAtEnd (R.remaining file.new) }
+{
+    read_some(&mut buf[at..], file)
+}
+
 // Reads on behind the first have bytes until there are want, and more if they come at once; fewer
 // only where the file ended or a read failed.
 pub fn fill<R: Read>(buf: &mut [u8], file: &mut R, have: usize, want: usize) -> Filled
     requires { have ≤ length buf.old }
-    ensures { IsPrefixLen result.count buf.new }
+    ensures count { IsPrefixLen result.count buf.new }
+    ensures more { have ≤ result.count }
+    ensures front { take have buf.new ≡ take have buf.old }
+    ensures bytes { Consumes (R.remaining file.old) (R.remaining file.new) (drop have (take result.count buf.new)) }
+    ensures end { result.error ≡ None → result.count < want → want ≤ length buf.new → IsAtEnd (R.remaining file.new) }
 {
     let mut done = have;
     while done < want {
-        let some = read_some(&mut buf[done..], file);
+        let some = read_behind(buf, file, done);
         let n = some.count;
         if n == 0 {
             return Filled {
