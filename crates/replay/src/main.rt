@@ -23,7 +23,7 @@ use streams::text::{end_line, say_fault};
 use table::answer::Facts;
 use table::facts;
 
-// The system's number for a name that is too long.
+// The system's number for a name that is too long (ENAMETOOLONG).
 const NAME_TOO_LONG: i32 = 36;
 
 fn tell_unread(rt: &HostRuntime, log: Log, path: &[u8]) {

@@ -17,7 +17,7 @@ pub fn least(a: usize, b: usize) -> usize
     if a < b { a } else { b }
 }
 
-// The system's number for text that is not text.
+// The system's number for bytes that are not text (EILSEQ).
 const NOT_TEXT: i32 = 84;
 
 // A file to be read. std opens a file by a name that is UTF-8; any other name fails.
