@@ -11,6 +11,8 @@ use sample_log::samples::{Block, block_of, put_samples};
 use sample_log::{
     GOING, Log, OF_NO_KIND, REFUSED, at_end, have_bytes, new_log, outcome, past, stopped,
 };
+use std::fs::File;
+use streams::out::Out;
 use turns::Taken;
 use values::fields::word;
 use words::bytes::read4;
@@ -49,7 +51,7 @@ fn after_block(log: Log, block: Block, t: Taken) -> Log
 
 // A block from the bytes that stand in the buffer: a whole sample, and those that follow it.
 fn take_block(
-    out: &mut [u8],
+    out: &mut Out,
     register: &mut [u32],
     reports: &mut [u32],
     table: &[u8],
@@ -71,19 +73,20 @@ fn take_block(
 }
 
 fn take_samples(
-    out: &mut [u8],
+    out: &mut Out,
     register: &mut [u32],
     reports: &mut [u32],
     table: &[u8],
     illegals: &mut [u16],
     bytes: &mut [u8],
+    file: &mut File,
     log: Log,
 ) -> Log
     requires { (length illegals.old ≡ 24832) × Held log (length bytes.old) × (log.entry < 18446744073709486080) }
     ensures { Held result (length bytes.new) × Onward log result }
 {
     let points = log.points;
-    let body = have_bytes(bytes, log, 20 + 8 * points);
+    let body = have_bytes(bytes, file, log, 20 + 8 * points);
     if body.state != GOING {
         return body;
     }
@@ -102,25 +105,26 @@ fn take_samples(
 
 // An entry, or a block of samples: the first word says what it is.
 fn take_next(
-    out: &mut [u8],
+    out: &mut Out,
     register: &mut [u32],
     reports: &mut [u32],
     table: &[u8],
     illegals: &mut [u16],
     bytes: &mut [u8],
+    file: &mut File,
     log: Log,
 ) -> Log
     requires { (length illegals.old ≡ 24832) × Held log (length bytes.old) × (log.entry < 18446744073709486080) }
     ensures { Held result (length bytes.new) × Onward log result }
 {
-    let head = have_bytes(bytes, log, 4);
+    let head = have_bytes(bytes, file, log, 4);
     if head.state != GOING {
         return at_end(head);
     }
     let from = head.from;
     let first = read4(&bytes[from..], 0);
     if first == 0 {
-        return take_samples(out, register, reports, table, illegals, bytes, head);
+        return take_samples(out, register, reports, table, illegals, bytes, file, head);
     }
     if first == 1 {
         return outcome(head, register::start(table, register));
@@ -133,19 +137,20 @@ fn take_next(
 
 // Entries, until the log stops.
 fn take_entries(
-    out: &mut [u8],
+    out: &mut Out,
     register: &mut [u32],
     reports: &mut [u32],
     table: &[u8],
     illegals: &mut [u16],
     bytes: &mut [u8],
+    file: &mut File,
     log: Log,
 ) -> Log
     requires { (length illegals.old ≡ 24832) × Held log (length bytes.old) }
 {
     let mut next = log;
     while next.entry < LAST {
-        next = take_next(out, register, reports, table, illegals, bytes, next);
+        next = take_next(out, register, reports, table, illegals, bytes, file, next);
         if next.state != GOING {
             return next;
         }
@@ -155,11 +160,11 @@ fn take_entries(
 
 // The log of a file, with a register of the table; there is a kind for each place.
 pub fn take_all(
-    out: &mut [u8],
+    out: &mut Out,
     register: &mut [u32],
     table: &[u8],
     kinds: &[u8],
-    fd: i32,
+    file: &mut File,
     points: usize,
 ) -> Log
     requires { (points ≤ 16) × (length kinds.now ≤ 12416) }
@@ -168,8 +173,8 @@ pub fn take_all(
     let mut illegals = [0u16; 24832];
     let n = put_of_kind(&mut illegals, kinds, kinds.len(), 0, 2);
     let mut reports = [0u32; 12416];
-    let mut bytes = io::large_buffer();
-    let log = new_log(fd, points, n);
+    let mut bytes = [0u8; 65536];
+    let log = new_log(points, n);
     take_entries(
         out,
         register,
@@ -177,6 +182,7 @@ pub fn take_all(
         table,
         &mut illegals,
         &mut bytes,
+        file,
         log,
     )
 }

@@ -4,7 +4,7 @@ ghost use Rattle.model.specs.Format.{accepted};
 
 use coverage::items::put_leasts;
 use sampling::{put_items, put_kinds, put_totals};
-use streams::out::say;
+use streams::out::{Out, say};
 use streams::text::{say_head, say_kind, say_number, say_numbered};
 use values::fields::word;
 use words::bytes::byte;
@@ -18,7 +18,7 @@ pub fn count_of(register: &[u32], place: usize) -> u32 {
 }
 
 // Whose item it is: the points, then the crosses.
-pub fn say_owner(out: &mut [u8], item: usize, points: usize) {
+pub fn say_owner(out: &mut Out, item: usize, points: usize) {
     if item < points {
         say_numbered(out, b"point ", item as u64);
     } else {
@@ -57,7 +57,7 @@ fn counter_at(
 }
 
 // Whether the counter is in its item's total, and has its at-least.
-fn say_standing(out: &mut [u8], c: Counter) {
+fn say_standing(out: &mut Out, c: Counter) {
     if !c.counted {
         say(out, b"not in the total");
     } else if c.at_least <= c.count {
@@ -68,7 +68,7 @@ fn say_standing(out: &mut [u8], c: Counter) {
 }
 
 // The counter's owner, what it is, and how it stands.
-fn say_what(out: &mut [u8], c: Counter, points: usize) {
+fn say_what(out: &mut Out, c: Counter, points: usize) {
     say_owner(out, c.item, points);
     say(out, b", ");
     say_kind(out, c.kind);
@@ -76,7 +76,7 @@ fn say_what(out: &mut [u8], c: Counter, points: usize) {
     say_standing(out, c);
 }
 
-fn say_counter(out: &mut [u8], c: Counter, points: usize) {
+fn say_counter(out: &mut Out, c: Counter, points: usize) {
     say_head(out, b"place ", c.place as u64);
     say_number(out, c.count as u64);
     say(out, b" (");
@@ -85,7 +85,7 @@ fn say_counter(out: &mut [u8], c: Counter, points: usize) {
 }
 
 fn say_places(
-    out: &mut [u8],
+    out: &mut Out,
     register: &[u32],
     kinds: &[u8],
     items: &[u8],
@@ -105,7 +105,7 @@ fn say_places(
 }
 
 // The counters, one line each.
-pub fn say_counters(out: &mut [u8], table: &[u8], register: &[u32], kinds: &[u8], points: usize)
+pub fn say_counters(out: &mut Out, table: &[u8], register: &[u32], kinds: &[u8], points: usize)
     requires { accepted table.now ≡ true }
 {
     let mut all = [0u8; 12416];

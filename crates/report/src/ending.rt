@@ -1,28 +1,28 @@
 // The last line.
 use sample_log::{CUT, ENDED, Log, OF_NO_KIND, REFUSED};
-use streams::out::say;
+use streams::out::{Out, say};
 use streams::text::{end_line, say_numbered, say_refusal};
 
-fn say_refused(out: &mut [u8], log: Log) {
+fn say_refused(out: &mut Out, log: Log) {
     say_numbered(out, b"entry ", log.entry);
     say(out, b" refused: ");
     say_refusal(out, log.number);
     end_line(out);
 }
 
-fn say_of_no_kind(out: &mut [u8], log: Log) {
+fn say_of_no_kind(out: &mut Out, log: Log) {
     say_numbered(out, b"entry ", log.entry);
     say_numbered(out, b" of no kind: its first word is ", log.number as u64);
     say(out, b", none of 0, 1, 2\n");
 }
 
-fn say_where(out: &mut [u8], text: &[u8], entry: u64) {
+fn say_where(out: &mut Out, text: &[u8], entry: u64) {
     say_numbered(out, text, entry);
     end_line(out);
 }
 
 // The last line: why the log was taken no further.
-pub fn say_ending(out: &mut [u8], log: Log) {
+pub fn say_ending(out: &mut Out, log: Log) {
     if log.state == ENDED {
         say(out, b"end of report\n");
         return;

@@ -3,7 +3,7 @@ ghost use Rattle.std.specs.Prelude.{◌≡◌, ◌<◌, ◌≤◌, length};
 
 use crate::counters::count_of;
 use arrays::element;
-use streams::out::say;
+use streams::out::{Out, say};
 use streams::text::say_numbered;
 use turns::Taken;
 use values::fields::word;
@@ -29,7 +29,7 @@ fn shows(illegals: &mut [u16], i: usize) -> bool
 }
 
 // The line of the i-th illegal place, if its word of a report says that it was raised.
-fn say_raised(out: &mut [u8], illegals: &mut [u16], i: usize, raised: u32, sample: u64, entry: u64)
+fn say_raised(out: &mut Out, illegals: &mut [u16], i: usize, raised: u32, sample: u64, entry: u64)
     requires { (length illegals.old ≡ 24832) × (i < 12416) }
 {
     if raised == 0 {
@@ -46,7 +46,7 @@ fn say_raised(out: &mut [u8], illegals: &mut [u16], i: usize, raised: u32, sampl
 
 // The report of a sample, which begins at a word of the reports: it has a word for each of n illegal places.
 fn say_sample(
-    out: &mut [u8],
+    out: &mut Out,
     illegals: &mut [u16],
     reports: &[u32],
     n: usize,
@@ -65,7 +65,7 @@ fn say_sample(
 
 // The reports of the samples of a block that were taken; sample and entry are the first one's.
 pub fn say_reports(
-    out: &mut [u8],
+    out: &mut Out,
     illegals: &mut [u16],
     reports: &[u32],
     n: usize,
@@ -96,7 +96,7 @@ fn shown_of(count: u32) -> u32 {
 }
 
 // How often an illegal place was raised, if it was.
-fn say_total(out: &mut [u8], register: &[u32], kind: u8, place: usize) {
+fn say_total(out: &mut Out, register: &[u32], kind: u8, place: usize) {
     let count = count_of(register, place);
     if (count == 0) | !is_illegal(kind) {
         return;
@@ -107,7 +107,7 @@ fn say_total(out: &mut [u8], register: &[u32], kind: u8, place: usize) {
     say(out, b" shown)\n");
 }
 
-pub fn say_totals(out: &mut [u8], register: &[u32], kinds: &[u8]) {
+pub fn say_totals(out: &mut Out, register: &[u32], kinds: &[u8]) {
     let mut place = 0;
     while place < kinds.len() {
         say_total(out, register, byte(kinds, place), place);

@@ -1,17 +1,17 @@
 // The lines of the points' unknown counts, and of the figures.
 use crate::counters::say_owner;
 use figures::{group_present, millionths_of, percent_of, present};
-use streams::out::say;
+use streams::out::{Out, say};
 use streams::text::{end_line, say_head, say_numbered, say_percent};
 
-fn say_unknown(out: &mut [u8], table: &[u8], register: &[u32], point: usize) {
+fn say_unknown(out: &mut Out, table: &[u8], register: &[u32], point: usize) {
     let counted = register::unknown_count(table, register, point);
     say_numbered(out, b"point ", point as u64);
     say_numbered(out, b" unknown: ", counted.count as u64);
     end_line(out);
 }
 
-pub fn say_unknowns(out: &mut [u8], table: &[u8], register: &[u32], points: usize) {
+pub fn say_unknowns(out: &mut Out, table: &[u8], register: &[u32], points: usize) {
     let mut point = 0;
     while point < points {
         say_unknown(out, table, register, point);
@@ -31,7 +31,7 @@ fn millionths(percent: f64) -> u64 {
 }
 
 // A figure in millionths, or none.
-fn say_figure(out: &mut [u8], is_there: bool, figure: u64) {
+fn say_figure(out: &mut Out, is_there: bool, figure: u64) {
     if is_there {
         say_percent(out, figure);
     } else {
@@ -39,7 +39,7 @@ fn say_figure(out: &mut [u8], is_there: bool, figure: u64) {
     }
 }
 
-fn say_item(out: &mut [u8], table: &[u8], register: &[u32], item: usize, points: usize) {
+fn say_item(out: &mut Out, table: &[u8], register: &[u32], item: usize, points: usize) {
     let answer = figure_calls::item_figure(table, register, item);
     let figure = answer.figure;
     say_head(out, b"item ", item as u64);
@@ -49,7 +49,7 @@ fn say_item(out: &mut [u8], table: &[u8], register: &[u32], item: usize, points:
     say(out, b")\n");
 }
 
-pub fn say_items(out: &mut [u8], table: &[u8], register: &[u32], items: usize, points: usize) {
+pub fn say_items(out: &mut Out, table: &[u8], register: &[u32], items: usize, points: usize) {
     let mut item = 0;
     while item < items {
         say_item(out, table, register, item, points);
@@ -57,7 +57,7 @@ pub fn say_items(out: &mut [u8], table: &[u8], register: &[u32], items: usize, p
     }
 }
 
-pub fn say_group(out: &mut [u8], table: &[u8], register: &[u32]) {
+pub fn say_group(out: &mut Out, table: &[u8], register: &[u32]) {
     let answer = figure_calls::group_figure(table, register);
     let figure = answer.figure;
     say(out, b"group: ");

@@ -13,11 +13,11 @@ use crate::counters::say_counters;
 use crate::illegals::say_totals;
 use crate::items::{say_group, say_items, say_unknowns};
 use layout::layout_of;
-use streams::out::say;
+use streams::out::{Out, say};
 use streams::text::say_numbered;
 use values::fields::word;
 
-fn say_state(out: &mut [u8], register: &[u32]) {
+fn say_state(out: &mut Out, register: &[u32]) {
     say_numbered(out, b"samples ", word(register, 1) as u64);
     if word(register, 0) == 1 {
         say(out, b", running\n");
@@ -27,7 +27,7 @@ fn say_state(out: &mut [u8], register: &[u32]) {
 }
 
 // All lines but the last.
-pub fn say_report(out: &mut [u8], table: &[u8], register: &[u32], kinds: &[u8], points: usize)
+pub fn say_report(out: &mut Out, table: &[u8], register: &[u32], kinds: &[u8], points: usize)
     requires { accepted table.now ≡ true }
 {
     let l = layout_of(table);

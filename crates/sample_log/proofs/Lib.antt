@@ -1,2 +1,3 @@
 mod BlockLaws
+mod LeftLaws
 mod SampleLaws

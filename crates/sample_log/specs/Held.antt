@@ -1,6 +1,7 @@
 -- What is known of a log between two of its entries.
 -- Assumes nothing.
-use Rattle.std.specs.Prelude.{ℕ, ◌+◌, ◌≤◌, ◌<◌, ◌≡◌}
+use Rattle.std.specs.Prelude.{ℕ, ◌+◌, ◌-◌, ◌≤◌, ◌<◌, ◌≡◌, List, Option, take, drop}
+use Rattle.std.specs.Io.KnownBytes.{prepend_known}
 use Rattle.sample_log.specs.declared.Log.{Log}
 
 -- the log's bytes stand in order within a buffer of n bytes
@@ -25,3 +26,7 @@ Standing want log = log.state ≡ 0 → log.from + want ≤ log.to
 -- if the second log goes on, it is at a later entry than the first
 abbrev pub Onward : Log → Log → Type 0
 Onward log next = next.state ≡ 0 → log.entry < next.entry
+
+-- the bytes that a log has left, where its file's are known: those in its buffer, and then its file's
+abbrev pub left_of : Log → List ℕ → Option (List ℕ) → Option (List ℕ)
+left_of log bytes file = prepend_known (take (log.to - log.from) (drop log.from bytes)) file

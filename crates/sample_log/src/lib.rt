@@ -3,9 +3,12 @@
 
 pub mod samples;
 
-ghost use Rattle.std.specs.Prelude.{◌≡◌, ◌+◌, ◌≤◌, ◌<◌, length};
-ghost use Rattle.sample_log.specs.Held.{Held, Kept, Onward, Standing};
+ghost use Rattle.std.specs.Prelude.{None, ◌≡◌, ◌+◌, ◌≤◌, ◌<◌, length};
+ghost use Rattle.std.specs.Io.KnownBytes.{IsAtEnd, Keeps};
+ghost use Rattle.sample_log.specs.Held.{Held, Kept, Onward, Standing, left_of};
 
+use std::io;
+use std::io::Read;
 use streams::files::{Filled, fill, to_front};
 
 // How a log stands: its next entry is to be taken, or it stopped, at its end or within.
@@ -24,7 +27,6 @@ pub const OF_NO_KIND: u8 = 5;
 // A log as it is taken.
 #[derive(Clone, Copy)]
 pub struct Log {
-    pub fd: i32,
     // The points of its samples, and the illegal places.
     pub points: usize,
     pub illegals: usize,
@@ -35,14 +37,15 @@ pub struct Log {
     pub state: u8,
     // The refusal number, or the first word of an entry of no kind.
     pub number: u32,
+    // The error of the read that failed, if one did.
+    pub error: Option<io::Error>,
 }
 
-pub fn new_log(fd: i32, points: usize, illegals: usize) -> Log
+pub fn new_log(points: usize, illegals: usize) -> Log
     requires { (points ≤ 16) × (illegals ≤ 12416) }
     ensures { Held result 0 }
 {
     Log {
-        fd: fd,
         points: points,
         illegals: illegals,
         from: 0,
@@ -50,6 +53,7 @@ pub fn new_log(fd: i32, points: usize, illegals: usize) -> Log
         entry: 0,
         state: GOING,
         number: 0,
+        error: None,
     }
 }
 
@@ -86,12 +90,13 @@ pub fn outcome(log: Log, number: u32) -> Log
 
 // How a log stands after a read of its bytes.
 fn state_after(got: Filled, want: usize) -> u8
-    ensures { result ≡ 0 → want ≤ got.count }
+    ensures going { result ≡ 0 → want ≤ got.count }
+    ensures cut { result ≡ CUT → (got.count < want) × (got.error ≡ None) }
 {
     if want <= got.count {
         return GOING;
     }
-    if got.failed {
+    if got.error.is_some() {
         return UNREAD;
     }
     CUT
@@ -108,9 +113,11 @@ fn moved(log: Log, from: usize, to: usize, state: u8) -> Log
 }
 
 // Reads on until the next want bytes stand in the buffer; fewer where the log ends or a read fails.
-pub fn have_bytes(bytes: &mut [u8], log: Log, want: usize) -> Log
+pub fn have_bytes<R: Read>(bytes: &mut [u8], file: &mut R, log: Log, want: usize) -> Log
     requires { Held log (length bytes.old) }
-    ensures { Held result (length bytes.new) × Standing want result × (result.points ≡ log.points) × (result.entry ≡ log.entry) }
+    ensures log { Held result (length bytes.new) × Standing want result × (result.points ≡ log.points) × (result.entry ≡ log.entry) }
+    ensures bytes { Keeps (left_of log bytes.old (R.remaining file.old)) (left_of result bytes.new (R.remaining file.new)) }
+    ensures cut { result.state ≡ CUT → want ≤ length bytes.new → IsAtEnd (R.remaining file.new) }
 {
     let from = log.from;
     let to = log.to;
@@ -118,9 +125,11 @@ pub fn have_bytes(bytes: &mut [u8], log: Log, want: usize) -> Log
         return moved(log, from, to, GOING);
     }
     let have = to_front(bytes, from, to);
-    let got = fill(bytes, log.fd, have, want);
+    let got = fill(bytes, file, have, want);
     let n = got.count;
-    moved(log, 0, n, state_after(got, want))
+    let mut next = moved(log, 0, n, state_after(got, want));
+    next.error = got.error;
+    next
 }
 
 // A log that stopped ends where an entry could begin.

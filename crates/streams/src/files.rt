@@ -1,7 +1,12 @@
 // Reading files through a buffer: a read that fails is told from the end.
-ghost use Rattle.std.specs.Prelude.{◌+◌, ◌≤◌, ◌≡◌, length, take, drop};
-ghost use Rattle.io.specs.Counts.{IsPrefixLen};
+ghost use Rattle.std.specs.Prelude.{◌+◌, ◌<◌, ◌≤◌, ◌≡◌, length, take, drop};
+ghost use Rattle.std.specs.Io.KnownBytes.{Consumes, IsAtEnd};
 ghost use Rattle.arrays.specs.Put.{put};
+ghost use Rattle.streams.specs.Counts.{IsPrefixLen};
+
+use std::fs::File;
+use std::io;
+use std::io::{ErrorKind, Read};
 
 // How often a read that a signal interrupts is tried before it counts as failed.
 const TRIES: u32 = 100000000;
@@ -12,58 +17,88 @@ pub fn least(a: usize, b: usize) -> usize
     if a < b { a } else { b }
 }
 
-// How many bytes came, and whether a read failed.
+// The system's number for bytes that are not text (EILSEQ).
+const NOT_TEXT: i32 = 84;
+
+// A file to be read. std opens a file by a name that is UTF-8; any other name fails.
+pub fn open(rt: &HostRuntime, path: &[u8]) -> io::Result<File> {
+    match std::str::from_utf8(path) {
+        Ok(name) => File::open(rt, name),
+        Err(_) => Err(io::Error::from_raw_os_error(NOT_TEXT)),
+    }
+}
+
+// How many bytes came, and the error of a read that failed.
 #[derive(Clone, Copy)]
 pub struct Filled {
     pub count: usize,
-    pub failed: bool,
+    pub error: Option<io::Error>,
 }
 
 // One read: 0 bytes at the end, or where it failed.
-fn read_some(part: &mut [u8], fd: i32) -> Filled
-    ensures { result.count ≤ length part.new }
+fn read_some<R: Read>(part: &mut [u8], file: &mut R) -> Filled
+    ensures count { result.count ≤ length part.new }
+    ensures bytes { Consumes (R.remaining file.old) (R.remaining file.new) (take result.count part.new) }
+    ensures end { result.error ≡ None → result.count ≡ 0 → 0 < length part.new → IsAtEnd (R.remaining file.new) }
 {
-    let mut tries = 0;
-    while tries < TRIES {
-        let got = libc::read(fd, part);
-        if got >= 0 {
-            return Filled {
-                count: io::count(got, part),
-                failed: false,
-            };
-        }
-        if os::errno() != libc::EINTR {
-            break;
+    let mut tries = 1;
+    loop {
+        match file.read(part) {
+            Ok(n) => {
+                return Filled {
+                    count: n,
+                    error: None,
+                };
+            }
+            Err(e) => {
+                if (tries >= TRIES) | (e.kind() != ErrorKind::Interrupted) {
+                    return Filled {
+                        count: 0,
+                        error: Some(e),
+                    };
+                }
+            }
         }
         tries += 1;
     }
-    Filled {
-        count: 0,
-        failed: true,
-    }
+}
+
+// One read, behind the first bytes.
+fn read_behind<R: Read>(buf: &mut [u8], file: &mut R, at: usize) -> Filled
+    requires { at ≤ length buf.old }
+    ensures count { at + result.count ≤ length buf.new }
+    ensures front { take at buf.new ≡ take at buf.old }
+    ensures bytes { Consumes (R.remaining file.old) (R.remaining file.new) (take result.count (drop at buf.new)) }
+    ensures end { result.error ≡ None → result.count ≡ 0 → at < length buf.new → IsAtEnd (R.remaining file.new) }
+{
+    read_some(&mut buf[at..], file)
 }
 
 // Reads on behind the first have bytes until there are want, and more if they come at once; fewer
 // only where the file ended or a read failed.
-pub fn fill(buf: &mut [u8], fd: i32, have: usize, want: usize) -> Filled
+pub fn fill<R: Read>(buf: &mut [u8], file: &mut R, have: usize, want: usize) -> Filled
     requires { have ≤ length buf.old }
-    ensures { IsPrefixLen result.count buf.new }
+    ensures count { IsPrefixLen result.count buf.new }
+    ensures more { have ≤ result.count }
+    ensures front { take have buf.new ≡ take have buf.old }
+    ensures bytes { Consumes (R.remaining file.old) (R.remaining file.new) (drop have (take result.count buf.new)) }
+    ensures end { result.error ≡ None → result.count < want → want ≤ length buf.new → IsAtEnd (R.remaining file.new) }
 {
     let mut done = have;
     while done < want {
-        let some = read_some(&mut buf[done..], fd);
+        let some = read_behind(buf, file, done);
         let n = some.count;
         if n == 0 {
             return Filled {
                 count: done,
-                failed: some.failed,
+                error: some.error,
             };
         }
         done += n;
     }
     Filled {
         count: done,
-        failed: false,
+        error: None,
     }
 }
 

@@ -1,17 +1,15 @@
 // What the program says of itself.
-use crate::out::say;
+use crate::errors::write_error;
+use crate::out::{Out, say};
 use crate::text::{end_line, say_refusal};
-use check::same;
+use std::env::{Env, FillError};
 
-pub fn say_usage() {
-    io::write_all(
-        libc::STDERR_FILENO,
-        b"usage: replay TABLE LOG   (replay --help explains)\n",
-    );
+pub fn say_usage(rt: &HostRuntime) {
+    write_error(rt, b"usage: replay TABLE LOG   (replay --help explains)\n");
 }
 
 // What it takes.
-fn say_purpose(out: &mut [u8]) {
+fn say_purpose(out: &mut Out) {
     say(
         out,
         b"replay TABLE LOG
@@ -33,7 +31,7 @@ Entries count from 0, samples from 1, places, points and items from 0.
 }
 
 // What it writes.
-fn say_lines(out: &mut [u8]) {
+fn say_lines(out: &mut Out) {
     say(
         out,
         b"The report is lines of text on standard output:
@@ -56,7 +54,7 @@ nearest whole, halves up. The group's is counted in millionths, rounded down.
 }
 
 // How its output ends.
-fn say_endings(out: &mut [u8]) {
+fn say_endings(out: &mut Out) {
     say(
         out,
         b"There is no exit status: the last line on standard output tells. It is
@@ -81,14 +79,14 @@ Stack: 1,024 KB.
     );
 }
 
-fn say_line(out: &mut [u8], number: u32) {
+fn say_line(out: &mut Out, number: u32) {
     say(out, b"  ");
     say_refusal(out, number);
     end_line(out);
 }
 
 // A table's, in the order in which they are tested; 3 and 15 to 17 are of one count or field.
-fn say_table_refusals(out: &mut [u8]) {
+fn say_table_refusals(out: &mut Out) {
     say_line(out, 1);
     say_line(out, 2);
     say_line(out, 3);
@@ -100,7 +98,7 @@ fn say_table_refusals(out: &mut [u8]) {
     say_line(out, 6);
 }
 
-fn say_refusals(out: &mut [u8]) {
+fn say_refusals(out: &mut Out) {
     say(out, b"Refusals of a table, at the byte PLACE, from 0:\n");
     say_table_refusals(out);
     say(out, b"Refusals of an entry:\n");
@@ -109,7 +107,7 @@ fn say_refusals(out: &mut [u8]) {
     say_line(out, 13);
 }
 
-pub fn say_help(out: &mut [u8]) {
+pub fn say_help(out: &mut Out) {
     say_purpose(out);
     say_lines(out);
     say_endings(out);
@@ -117,8 +115,16 @@ pub fn say_help(out: &mut [u8]) {
 }
 
 // The first argument is the given word, of at most nine bytes.
-pub fn first_is(text: &[u8]) -> bool {
+pub fn first_is(rt: &HostRuntime, text: &[u8]) -> bool {
     let mut word = [0u8; 9];
-    let n = os::arg(1, &mut word);
-    same(&word[..n], text)
+    match rt.arg(1, &mut word) {
+        Ok(n) => &word[..n] == text,
+        Err(_) => false,
+    }
+}
+
+// There is an argument of that number.
+pub fn has_arg(rt: &HostRuntime, i: usize) -> bool {
+    let mut none = [0u8; 0];
+    !matches!(rt.arg(i, &mut none), Err(FillError::NotPresent))
 }

@@ -1,34 +1,43 @@
 // Lines of text on standard output.
-use crate::out::say;
+use crate::out::{Out, say};
 
-pub fn say_number(out: &mut [u8], n: u64) {
-    let mut text = [0u8; 20];
-    let k = io::decimal(n, &mut text);
-    say(out, &text[..k]);
+pub fn say_number(out: &mut Out, n: u64) {
+    let mut digits = [0u8; 20];
+    let mut rest = n;
+    let mut at = 20;
+    while at > 0 {
+        at -= 1;
+        digits[at] = b'0' + (rest % 10) as u8;
+        rest /= 10;
+        if rest == 0 {
+            break;
+        }
+    }
+    say(out, &digits[at..]);
 }
 
 // A text, and a number after it.
-pub fn say_numbered(out: &mut [u8], text: &[u8], n: u64) {
+pub fn say_numbered(out: &mut Out, text: &[u8], n: u64) {
     say(out, text);
     say_number(out, n);
 }
 
-pub fn end_line(out: &mut [u8]) {
+pub fn end_line(out: &mut Out) {
     say(out, b"\n");
 }
 
 // A text, a number, and a colon.
-pub fn say_head(out: &mut [u8], text: &[u8], n: u64) {
+pub fn say_head(out: &mut Out, text: &[u8], n: u64) {
     say_numbered(out, text, n);
     say(out, b": ");
 }
 
-fn say_digit(out: &mut [u8], n: u64) {
+fn say_digit(out: &mut Out, n: u64) {
     say_number(out, n % 10);
 }
 
 // Millionths of a percent as a percentage with six decimals.
-pub fn say_percent(out: &mut [u8], millionths: u64) {
+pub fn say_percent(out: &mut Out, millionths: u64) {
     say_number(out, millionths / 1000000);
     say(out, b".");
     say_digit(out, millionths / 100000);
@@ -40,13 +49,13 @@ pub fn say_percent(out: &mut [u8], millionths: u64) {
     say(out, b" %");
 }
 
-fn say_if(out: &mut [u8], number: u32, own: u32, text: &[u8]) {
+fn say_if(out: &mut Out, number: u32, own: u32, text: &[u8]) {
     if number == own {
         say(out, text);
     }
 }
 
-fn say_point_kind(out: &mut [u8], kind: u32) {
+fn say_point_kind(out: &mut Out, kind: u32) {
     say_if(out, kind, 0, b"bin");
     say_if(out, kind, 1, b"default bin");
     say_if(out, kind, 2, b"illegal bin");
@@ -55,7 +64,7 @@ fn say_point_kind(out: &mut [u8], kind: u32) {
 }
 
 // What a counter is, by its kind in the flat arrays.
-pub fn say_kind(out: &mut [u8], kind: u8) {
+pub fn say_kind(out: &mut Out, kind: u8) {
     let k = kind as u32;
     say_point_kind(out, k);
     say_if(out, k, 5, b"cross bin");
@@ -64,7 +73,7 @@ pub fn say_kind(out: &mut [u8], kind: u8) {
 }
 
 // What a refusal number means.
-fn say_reason(out: &mut [u8], number: u32) {
+fn say_reason(out: &mut Out, number: u32) {
     say(out, b" (");
     say_table_reason(out, number);
     say_field_reason(out, number);
@@ -73,26 +82,26 @@ fn say_reason(out: &mut [u8], number: u32) {
 }
 
 // A refusal number and what it means.
-pub fn say_refusal(out: &mut [u8], number: u32) {
+pub fn say_refusal(out: &mut Out, number: u32) {
     say_number(out, number as u64);
     say_reason(out, number);
 }
 
 // The byte at fault; a table that is too long has none.
-fn say_place(out: &mut [u8], number: u32, place: usize) {
+fn say_place(out: &mut Out, number: u32, place: usize) {
     if number != 1 {
         say_numbered(out, b" at byte ", place as u64);
     }
 }
 
 // A table's refusal number, the byte at fault, and what the number means.
-pub fn say_fault(out: &mut [u8], number: u32, place: usize) {
+pub fn say_fault(out: &mut Out, number: u32, place: usize) {
     say_number(out, number as u64);
     say_place(out, number, place);
     say_reason(out, number);
 }
 
-fn say_table_reason(out: &mut [u8], number: u32) {
+fn say_table_reason(out: &mut Out, number: u32) {
     say_if(out, number, 1, b"the table is over 65,536 bytes");
     say_if(
         out,
@@ -116,7 +125,7 @@ fn say_table_reason(out: &mut [u8], number: u32) {
 }
 
 // Of a count or field.
-fn say_field_reason(out: &mut [u8], number: u32) {
+fn say_field_reason(out: &mut Out, number: u32) {
     say_if(
         out,
         number,
@@ -138,7 +147,7 @@ fn say_field_reason(out: &mut [u8], number: u32) {
     say_if(out, number, 17, b"an unused field without its unused value");
 }
 
-fn say_call_reason(out: &mut [u8], number: u32) {
+fn say_call_reason(out: &mut Out, number: u32) {
     say_if(
         out,
         number,
