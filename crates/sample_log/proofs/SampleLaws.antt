@@ -29,6 +29,11 @@ module _ (points count : ℕ) (s : List ℕ) where
       let cut : samples_from points (count - i) s from ≡ xs ++ rest = rw (place, e) (turn i from h) in
       (omega (arith, ap length cut, length-append xs rest, size), rw (w, g) (put_next at n xs rest l size k) ∙ ap (λ (x : List ℕ). put at x l) (sym cut))
 
+  pub samples_start : (l : List ℕ) → (0 + length (samples_from points (count - 0) s 0) ≡ length (samples_from points count s 0)) × (put 0 (samples_from points (count - 0) s 0) l ≡ put 0 (samples_from points count s 0) l)
+  samples_start l =
+      let z : count - 0 ≡ count = omega arith in
+      (rw z (omega arith), rw z)
+
   -- nothing is left
   pub samples_end : (i from at : ℕ) (l : List ℕ) → count ≤ i → (at + length (samples_from points (count - i) s from) ≡ at) × (put at (samples_from points (count - i) s from) l ≡ l)
   unfolding samples_from
