@@ -44,6 +44,7 @@ const LARGEST_LISTS: usize = 17218;
 
 const LARGEST_HITS: usize = 12672;
 
+#[inline(never)]
 fn take_small(
     register: &mut [u32],
     reports: &mut [u32],
@@ -59,6 +60,7 @@ fn take_small(
     each(register, reports, t, s, plan, lists, &mut hits)
 }
 
+#[inline(never)]
 fn take_medium(
     register: &mut [u32],
     reports: &mut [u32],
@@ -74,6 +76,7 @@ fn take_medium(
     each(register, reports, t, s, plan, lists, &mut hits)
 }
 
+#[inline(never)]
 fn take_largest(
     register: &mut [u32],
     reports: &mut [u32],
