@@ -37,7 +37,7 @@ def main(root):
     everywhere, scoped = rows()
     crates = os.path.join(root, "crates")
     for folder, dirs, files in os.walk(crates):
-        dirs[:] = [d for d in dirs if d != "out"]
+        dirs[:] = [d for d in dirs if not (d == "out" and os.path.dirname(folder) == crates)]
         for name in files:
             path = os.path.join(folder, name)
             if not name.endswith((".antt", ".rt", ".edit")):

@@ -989,16 +989,10 @@ fn names() {
         format!("replay: cannot read {name}: No such file or directory\n")
     );
 
-    // Every byte that a name can have, first those that are text, and the longest name with nothing
-    // but escapes. A name that is not UTF-8 is told whole, and opens no file.
+    // Every byte that a name can have, and the longest name with nothing but escapes.
     let every: Vec<u8> = (1..=255).filter(|&b| b != b'/').collect();
-    let text: Vec<u8> = (1..=127).filter(|&b| b != b'/').collect();
     for (name, why) in [
-        (&text[..], "No such file or directory"),
-        (
-            &every[..],
-            "Invalid or incomplete multibyte or wide character",
-        ),
+        (&every[..], "No such file or directory"),
         (&[1; 4_096], "File name too long"),
     ] {
         let output = output(&mut replay_of(&table, Path::new(OsStr::from_bytes(name))));

@@ -17,14 +17,14 @@ pub fn least(a: usize, b: usize) -> usize
     if a < b { a } else { b }
 }
 
-// The system's number for bytes that are not text (EILSEQ).
-const NOT_TEXT: i32 = 84;
+// The system's number for a file that is not there (ENOENT).
+const NOT_THERE: i32 = 2;
 
-// A file to be read. std opens a file by a name that is UTF-8; any other name fails.
+// A file to be read. std opens a file by a name that is UTF-8; one of any other name counts as not there.
 pub fn open(rt: &HostRuntime, path: &[u8]) -> io::Result<File> {
     match std::str::from_utf8(path) {
         Ok(name) => File::open(rt, name),
-        Err(_) => Err(io::Error::from_raw_os_error(NOT_TEXT)),
+        Err(_) => Err(io::Error::from_raw_os_error(NOT_THERE)),
     }
 }
 
