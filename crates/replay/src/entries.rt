@@ -20,6 +20,13 @@ use words::bytes::read4;
 // Entries are taken below this number.
 const LAST: u64 = 18446744073709486080;
 
+// The illegal places, and from 12,416 on how often the line of each was shown; and the reports of a block.
+#[derive(Drop)]
+struct Raised {
+    illegals: [u16; 24832],
+    reports: [u32; 12416],
+}
+
 // A block whose bytes have come: the register takes its samples.
 fn give_samples(
     register: &mut [u32],
@@ -53,36 +60,49 @@ fn after_block(log: Log, block: Block, t: Taken) -> Log
 fn take_block(
     out: &mut Out,
     register: &mut [u32],
-    reports: &mut [u32],
     table: &[u8],
-    illegals: &mut [u16],
+    raised: &mut Raised,
     bytes: &[u8],
     log: Log,
 ) -> Log
-    requires { (length illegals.old ≡ 24832) × Held log log.to × (log.from + length bytes.now ≡ log.to) × (20 + 8 * log.points ≤ length bytes.now) × (log.entry < 18446744073709486080) }
+    requires { Held log log.to × (log.from + length bytes.now ≡ log.to) × (20 + 8 * log.points ≤ length bytes.now) × (log.entry < 18446744073709486080) }
     ensures { Held result log.to × Onward log result }
 {
     let points = log.points;
     let n = log.illegals;
     let before = word(register, 1) as u64;
     let block = block_of(bytes, points, n);
-    let t = give_samples(register, reports, table, bytes, points, block.count);
+    let t = give_samples(
+        register,
+        &mut raised.reports,
+        table,
+        bytes,
+        points,
+        block.count,
+    );
     let next = after_block(log, block, t);
-    say_reports(out, illegals, reports, n, t, before + 1, log.entry);
+    say_reports(
+        out,
+        &mut raised.illegals,
+        &raised.reports,
+        n,
+        t,
+        before + 1,
+        log.entry,
+    );
     next
 }
 
 fn take_samples(
     out: &mut Out,
     register: &mut [u32],
-    reports: &mut [u32],
     table: &[u8],
-    illegals: &mut [u16],
+    raised: &mut Raised,
     bytes: &mut [u8],
     file: &mut File,
     log: Log,
 ) -> Log
-    requires { (length illegals.old ≡ 24832) × Held log (length bytes.old) × (log.entry < 18446744073709486080) }
+    requires { Held log (length bytes.old) × (log.entry < 18446744073709486080) }
     ensures { Held result (length bytes.new) × Onward log result }
 {
     let points = log.points;
@@ -92,29 +112,20 @@ fn take_samples(
     }
     let from = body.from;
     let to = body.to;
-    take_block(
-        out,
-        register,
-        reports,
-        table,
-        illegals,
-        &bytes[from..to],
-        body,
-    )
+    take_block(out, register, table, raised, &bytes[from..to], body)
 }
 
 // An entry, or a block of samples: the first word says what it is.
 fn take_next(
     out: &mut Out,
     register: &mut [u32],
-    reports: &mut [u32],
     table: &[u8],
-    illegals: &mut [u16],
+    raised: &mut Raised,
     bytes: &mut [u8],
     file: &mut File,
     log: Log,
 ) -> Log
-    requires { (length illegals.old ≡ 24832) × Held log (length bytes.old) × (log.entry < 18446744073709486080) }
+    requires { Held log (length bytes.old) × (log.entry < 18446744073709486080) }
     ensures { Held result (length bytes.new) × Onward log result }
 {
     let head = have_bytes(bytes, file, log, 4);
@@ -124,7 +135,7 @@ fn take_next(
     let from = head.from;
     let first = read4(&bytes[from..], 0);
     if first == 0 {
-        return take_samples(out, register, reports, table, illegals, bytes, file, head);
+        return take_samples(out, register, table, raised, bytes, file, head);
     }
     if first == 1 {
         return outcome(head, register::start(table, register));
@@ -139,18 +150,17 @@ fn take_next(
 fn take_entries(
     out: &mut Out,
     register: &mut [u32],
-    reports: &mut [u32],
     table: &[u8],
-    illegals: &mut [u16],
+    raised: &mut Raised,
     bytes: &mut [u8],
     file: &mut File,
     log: Log,
 ) -> Log
-    requires { (length illegals.old ≡ 24832) × Held log (length bytes.old) }
+    requires { Held log (length bytes.old) }
 {
     let mut next = log;
     while next.entry < LAST {
-        next = take_next(out, register, reports, table, illegals, bytes, file, next);
+        next = take_next(out, register, table, raised, bytes, file, next);
         if next.state != GOING {
             return next;
         }
@@ -169,20 +179,12 @@ pub fn take_all(
 ) -> Log
     requires { (points ≤ 16) × (length kinds.now ≤ 12416) }
 {
-    // The illegal places, and from 12,416 on how often the line of each was shown.
-    let mut illegals = [0u16; 24832];
-    let n = put_of_kind(&mut illegals, kinds, kinds.len(), 0, 2);
-    let mut reports = [0u32; 12416];
+    let mut raised = Raised {
+        illegals: [0; 24832],
+        reports: [0; 12416],
+    };
+    let n = put_of_kind(&mut raised.illegals, kinds, kinds.len(), 0, 2);
     let mut bytes = [0u8; 65536];
     let log = new_log(points, n);
-    take_entries(
-        out,
-        register,
-        &mut reports,
-        table,
-        &mut illegals,
-        &mut bytes,
-        file,
-        log,
-    )
+    take_entries(out, register, table, &mut raised, &mut bytes, file, log)
 }
