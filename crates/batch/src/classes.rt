@@ -19,7 +19,7 @@ use table::answer::Facts;
 use turns::{Taken, each};
 
 // ---- size classes: a small table does not pay for the clearing of large arrays, nor for their room on the stack. It gets the first class that has room; what chooses it calls itself for the
-// next one, since a compiler then keeps the classes' arrays out of its frame and each other's.
+// next one, since a compiler then keeps the classes' arrays out of its frame and each other's. What holds the arrays of hits is never inlined, for the same reason.
 
 // How many words of plan, elements of lists, counters and hits a class has room for; the largest is for any table.
 const SMALL_PLAN: usize = 768;

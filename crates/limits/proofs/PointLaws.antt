@@ -9,7 +9,7 @@ use lib.Dec.{eqb}
 use lib.ListN.{length, get_or}
 use borrow.Author.Tests.{ne_eqb, eqb-true, lt-ltb}
 use Rattle.model.specs.Lists.{all, sum_of}
-use Rattle.model.specs.Table.{Kind, cover, ignore, illegal, default, Point, single, ValueBin, TransitionBin, Table, is_cover, is_default, no_point}
+use Rattle.model.specs.Table.{Kind, cover, ignore, illegal, default, Point, ValueBin, TransitionBin, Table, is_cover, is_default, no_point}
 use Rattle.model.specs.Counters.{point_at, has_auto, auto_count}
 use Rattle.model.specs.Format.{byte, kind_from, point_record}
 use Rattle.model.specs.Ranges.{range_count, covers_of, counters_of, transitions_of, value_total, auto_total, transition_total, counters_at, covers_at}

@@ -40,7 +40,7 @@ number_of limits = 6
 
 -- The byte at fault: the count or the field, the later of two that are possible alone; for `cut` where the missing count or record would begin;
 -- for `disagreement` the count or record after which it is tested; for `leftover` the first byte left over; for `limits` the table's length.
--- `tooLong` has none: 0.
+-- `too_long` has none: 0.
 pub record Fault : Type 0 where
   pub class : FaultClass
   pub at : ℕ
@@ -511,7 +511,7 @@ nots_ok (either e f) = nots_ok e && nots_ok f
 
 -- How the expression is found: the tokens are read from the last to the first, so that an operator finds its operands in front.
 -- `none` if an operator lacks an operand. (`expressions-exact` of proofs/Prefix.antt: one expression e is found exactly if `prefix e` are the tokens
--- and `notsOk e`.)
+-- and `nots_ok e`.)
 abbrev pub with_token : Token → List Select → Option (List Select)
 with_token (leaf e) es = some (e ∷ es)
 with_token not_token [] = none

@@ -15,7 +15,7 @@ use Rattle.model.specs.Values.{lowest}
 use Rattle.model.specs.Ranges.{sizes}
 use Rattle.model.specs.Counters.{no_cover_bin, point_at, value_bin_at, distributed, point_counters}
 use Rattle.model.specs.Format.{byte, u16, form_from, kind_from, bin_rules, BinHead, allows_patterns, point_record, decode, decoded, accepted, table_of}
-use Rattle.model.specs.Raw.{rows, ranges_at, bin_at, bins_at, count_place, records_place, record_count}
+use Rattle.model.specs.Raw.{ranges_at, bin_at, bins_at, count_place, records_place, record_count}
 use Rattle.model.specs.Register.{point_total}
 use Rattle.model.proofs.Readers.{All, all_both, all_map}
 use Rattle.model.proofs.Booleans.{false-true, and_left, and_right}

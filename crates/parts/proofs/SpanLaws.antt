@@ -1,4 +1,4 @@
--- Spans in order and joined: the words that `settle` leaves are `settledWords`, and as ranges they hold the same values.
+-- Spans in order and joined: the words that `settle` leaves are `settled_words`, and as ranges they hold the same values.
 -- Assumes nothing.
 use mathlib.Core.Path.{◌≡◌, refl, sym, ap, ap₂, ◌∙◌}
 use mathlib.Core.Bool.{Bool, true, false, not, ◌&&◌, ◌||◌, cond}

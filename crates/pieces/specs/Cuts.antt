@@ -52,7 +52,7 @@ unfoldable pub piece_words : List Piece → List ℕ
 piece_words [] = []
 piece_words (q ∷ qs) = range_words q.range q.part ++ piece_words qs
 
--- ---- what the code asks of a row; `rows-cuttable` (proofs/PointPieces.antt) says that the rows of a point have it
+-- ---- what the code asks of a row; `rows_cuttable` (proofs/PointPieces.antt) says that the rows of a point have it
 
 abbrev pub Bounded : ℕ → Range → Type 0
 Bounded low (span lo hi) = (low ≤ lo) × (lo ≤ hi) × (hi < 2 ^ 33)

@@ -1,4 +1,4 @@
--- What `evalAt` is in each case of the code.
+-- What `eval_at` is in each case of the code.
 -- Assumes nothing.
 use mathlib.Core.Path.{◌≡◌, refl, ◌∙◌}
 use mathlib.Core.Bool.{false, not, ◌&&◌, ◌||◌}

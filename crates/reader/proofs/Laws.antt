@@ -1,6 +1,6 @@
 -- Sections by their places: from one count to the next, and the bytes of a section's part.
 -- Assumes nothing.
-use mathlib.Core.Path.{◌≡◌, refl, ◌∙◌}
+use mathlib.Core.Path.{◌≡◌, refl, ap, ◌∙◌}
 use mathlib.Core.Bool.{Bool, true, false, ◌&&◌, cond}
 use mathlib.Core.List.{List, [], ◌∷◌}
 use Prim.Native.Nat.{ℕ, zero, suc, ◌+◌, ◌-◌, ◌*◌, ◌≤◌, ◌<◌}
@@ -68,6 +68,18 @@ module _ (s : List ℕ) where
   unfolding count_place
   places_rise zero j k e = let d : j ≡ k = omega arith in rw d (omega arith)
   places_rise (suc n) j k e = omega (arith, places_rise n (suc j) k (omega arith))
+
+  -- the place of a count at or before the last
+  pub place_low : (k at : ℕ) → k ≤ 10 → at ≡ count_place s k → count_place s 10 < 4294967296 → at < 4294967296
+  place_low k at h e low = omega (arith, places_rise (10 - k) k 10 (omega arith))
+
+  -- a reader of this table at the count of section i + 1: where it stands next, and the records that it finds
+  pub reader_next : (t : List ℕ) (i at size next : ℕ) → t ≡ s → at ≡ count_place s i → next ≡ (part_at t at size).to → size ≡ get_or record_sizes i 0 → next ≡ count_place s (i + 1)
+  reader_next t i at size next e f g h = g ∙ ap (λ (x : List ℕ). (part_at x at size).to) e ∙ ap (λ (x : ℕ). (part_at s x size).to) f ∙ count_next i size h
+
+  pub reader_found : (t : List ℕ) (i k at size : ℕ) (p : Part) → t ≡ s → i ≡ k → at ≡ count_place s i → p ≡ part_at t at size → k < 10 → size ≡ get_or record_sizes k 0 → p ≡ section_part s (k + 1)
+  reader_found t i k at size p e same f g h j =
+      section_found k size p h j (g ∙ ap (λ (x : List ℕ). part_at x at size) e ∙ ap (λ (x : ℕ). part_at s x size) (f ∙ ap (count_place s) same))
 
   -- and not far apart, in a list of bytes
   pub places_small : ((i : ℕ) → get_or s i 0 < 256) → (k : ℕ) → count_place s k ≤ 1310702 * k

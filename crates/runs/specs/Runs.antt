@@ -1,7 +1,7 @@
 -- The runs of transition bins by the codes of the points' readings.
--- proofs/Exact.antt shows that `allRuns` is the model's `nextRuns`.
+-- proofs/Exact.antt shows that `all_runs` is the model's `next_runs`.
 -- Assumes nothing.
-use Rattle.std.specs.Prelude.{ℕ, ◌+◌, Bool, ◌&&◌, cond, List, [], ◌∷◌, ◌++◌, leb, ltb, eqb, length, get_or, take, drop}
+use Rattle.std.specs.Prelude.{ℕ, Bool, ◌&&◌, cond, List, [], ◌∷◌, ◌++◌, leb, ltb, eqb, length, get_or, take, drop}
 use Rattle.model.specs.Lists.{all, sum_of}
 use Rattle.model.specs.Table.{Step, TransitionBin}
 use Rattle.model.specs.Sampling.{Reading, skipped, unknown, known, run_length, next_run}

@@ -1,7 +1,7 @@
 -- Run words, step by step, as the code goes through them: for the contracts of inner functions.
--- proofs/Shapes.antt shows that this is the model's `nextSteps`.
+-- proofs/Shapes.antt shows that this is the model's `next_steps`.
 -- Assumes nothing.
-use Rattle.std.specs.Prelude.{ℕ, ◌+◌, ◌-◌, ◌/◌, ◌%◌, Bool, cond, List, [], ◌∷◌, ◌++◌, eqb, length, take, drop, replicate}
+use Rattle.std.specs.Prelude.{ℕ, ◌-◌, ◌/◌, ◌%◌, Bool, cond, List, [], ◌∷◌, ◌++◌, eqb, length, take, drop, replicate}
 use Rattle.model.specs.Lists.{or_all}
 use Rattle.model.specs.Sampling.{longer}
 

@@ -27,7 +27,7 @@ pub record ExaminedOf (s : List ℕ) (r : Examined) : Type 0 where
   pub verdict : r.verdict ≡ checked s
   pub tally : r.verdict.number ≡ 0 → Tallied (raw_table s) r.tally
 
--- the model's `readTable` from section 3 on
+-- the model's `read_table` from section 3 on
 unfoldable pub after_bins : List ℕ → List Point → List BinHead → Reader Table
 after_bins s ps heads = do
   bins ← read_range_section s ps heads

@@ -1,6 +1,12 @@
 use Rattle.std.proofs.Common.{◌+◌, ◌*◌, refl, sym, ◌∙◌, arith}
-use Rattle.sample_log.proofs.SampleLaws.{samples_turn, samples_end}
+use Rattle.sample_log.proofs.SampleLaws.{samples_start, samples_turn, samples_end}
 use Rattle.sample_log.proofs.samples.put_samples.Goals as goal
+
+pub loop-i-init : goal.loop-i-init
+loop-i-init c =
+    let a = c.args in
+    let e = samples_start a.points a.count a.bytes.now a.words.now in
+    (omega arith, omega arith, omega arith, refl, e.0, e.1)
 
 pub loop-i-preserved : goal.loop-i-preserved
 loop-i-preserved c =
