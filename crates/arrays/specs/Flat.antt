@@ -9,6 +9,8 @@ use Rattle.model.specs.Figures.{in_total, item_of}
 use Rattle.model.specs.Format.{byte}
 use Rattle.model.specs.Raw.{records_place, token_total}
 use Rattle.model.specs.Register.{point_total, in_widths}
+use Rattle.arrays.specs.declared.reading.Reading as code
+use Rattle.arrays.specs.declared.reading.Reading.TheVariants.{Skipped, Unknown, Known}
 
 -- ---- one element for each counter
 
@@ -108,16 +110,21 @@ cross_place s (suc c) = next_place s (cross_place s c)
 
 -- ---- one element for each point's reading
 
--- a known reading is its value, which is below 2^33
-abbrev pub reading_code : Reading → ℕ
-reading_code skipped = 8589934592
-reading_code unknown = 8589934593
-reading_code (known v) = v
+-- a reading as the code has it, and the other way round
+abbrev pub reading_code : Reading → code.Reading
+reading_code skipped = Skipped
+reading_code unknown = Unknown
+reading_code (known v) = Known v
 
-unfoldable pub reading_codes : Table → List ℕ → List ℕ
+abbrev pub reading_from : code.Reading → Reading
+reading_from Skipped = skipped
+reading_from Unknown = unknown
+reading_from (Known v) = known v
+
+unfoldable pub reading_codes : Table → List ℕ → List code.Reading
 reading_codes t w = map (λ p. reading_code (reading t w p)) (up_from 0 (point_total t))
 
 -- the array has the readings of a sample that refusal 13 lets pass
-pub record Readings (t : Table) (w : List ℕ) (a : List ℕ) : Type 0 where
+pub record Readings (t : Table) (w : List ℕ) (a : List code.Reading) : Type 0 where
   pub codes : take (point_total t) a ≡ reading_codes t w
   pub widths : in_widths t w ≡ true

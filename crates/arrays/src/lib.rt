@@ -5,6 +5,8 @@ ghost use Rattle.std.specs.Prelude.{◌≡◌, [], ◌∷◌, ◌<◌, ◌≤◌
 ghost use Rattle.model.specs.Lists.{as_bit};
 ghost use Rattle.arrays.specs.Put.{put};
 
+pub mod reading;
+
 pub fn as_bit(b: bool) -> u8
     ensures { result ≡ as_bit b }
 {
@@ -37,29 +39,13 @@ pub fn put_one(flags: &mut [u8], at: usize, b: bool) -> usize
 }
 
 // n elements v.
-pub fn put_same(flags: &mut [u8], at: usize, n: usize, v: u8) -> usize
-    requires { at + n ≤ length flags.old }
-    ensures { (result ≡ at + n) × (flags.new ≡ put at (replicate n v) flags.old) }
+pub fn put_same<T: Copy>(xs: &mut [T], at: usize, n: usize, v: T) -> usize
+    requires { at + n ≤ length xs.old }
+    ensures { (result ≡ at + n) × (xs.new ≡ put at (replicate n v) xs.old) }
 {
-    let e = at + n;
-    let mut i = at;
-    while i < e {
-        flags[i] = v;
-        i += 1;
+    let end = at + n;
+    for i in at..end {
+        xs[i] = v;
     }
-    e
-}
-
-// The same for an array of u16.
-pub fn put_same_u16(elements: &mut [u16], at: usize, n: usize, v: u16) -> usize
-    requires { at + n ≤ length elements.old }
-    ensures { (result ≡ at + n) × (elements.new ≡ put at (replicate n v) elements.old) }
-{
-    let e = at + n;
-    let mut i = at;
-    while i < e {
-        elements[i] = v;
-        i += 1;
-    }
-    e
+    end
 }

@@ -14,11 +14,13 @@ use Rattle.model.specs.Table.{Table}
 use Rattle.model.specs.Format.{table_of}
 use Rattle.model.specs.Register.{point_total, illegal_total, Effect, sample, sample_tests, call_tests, refuse, call}
 use Rattle.table.specs.declared.answer.Facts.{Facts}
-use Rattle.table.specs.Check.{facts_of}
-use Rattle.refusals.specs.Refusals.{RegisterRefusal}
+use Rattle.refusals.specs.Numbers.{number_of}
+use Rattle.refusals.specs.declared.refusal.Refusal.{Refusal}
+use Rattle.refusals.specs.declared.refusal.Refusal.TheVariants.{Length}
 use Rattle.refusals.proofs.RefusalLaws.{after_stop, after_on}
-use Rattle.refusals.proofs.CallLaws.{table-known, tests-refuse}
+use Rattle.refusals.proofs.CallLaws.{table_refuses, table-known, tests-refuse}
 use Rattle.turns.specs.declared.Taken.{Taken}
+use Rattle.batch.specs.Tested.{Passes, Fails, table, register}
 use Rattle.turns.specs.Batch.{Batch, ended, sample_size, and_then}
 use Rattle.turns.specs.Turns.{Done, Took, turns}
 use Rattle.turns.proofs.TurnLaws.{turns-none, turns_one}
@@ -28,22 +30,23 @@ fails : (b : Bool) (rest : List (Bool × ℕ)) → b ≡ false → first_failed 
 unfolding first_failed
 fails b rest e = ap (λ (x : Bool). cond x (first_failed rest) 12) e
 
-module _ (s : List ℕ) (f : Facts) (told : f ≡ facts_of s) (w v r : List ℕ) (z : f.number ≡ 0) (n : ℕ) (known : RegisterRefusal f w n) where
-  -- 7 or 8
-  pub register_refuses : (n ≡ 0 → ⊥) → call s w (sample v r) ≡ refuse n w (sample v r)
+module _ (s w v r : List ℕ) where
+  -- a test fails that all samples have in common
+  pub fails-call : (x : Refusal) → Fails s w x → call s w (sample v r) ≡ refuse (number_of x) w (sample v r)
   unfolding call_tests
-  register_refuses y =
+  fails-call x (table f told) = table_refuses s w (sample v r) f told
+  fails-call x (register f told y known) =
       let t = table_of s in
-      tests-refuse s f told z w (sample v r) n (after_stop f w n known y t (table-known s f told z).1 (sample_tests t v r (eqb (get_or w 0 0) 1) (get_or w 1 0))) y
+      tests-refuse s f told w (sample v r) y (after_stop f w y known t (table-known s f told).1 (sample_tests t v r (eqb (get_or w 0 0) 1) (get_or w 1 0)))
 
-  pub wrong_size : n ≡ 0 → (length v ≡ 4 + 2 * f.points → ⊥) → call s w (sample v r) ≡ refuse 12 w (sample v r)
+  pub wrong_size : (f : Facts) → Passes s w f → (length v ≡ 4 + 2 * f.points → ⊥) → call s w (sample v r) ≡ refuse (number_of Length) w (sample v r)
   unfolding call_tests
-  wrong_size y h =
+  wrong_size f p h =
       let t = table_of s in
-      let d = (table-known s f told z).1 in
-      let first = after_on f w n known y t d (sample_tests t v r (eqb (get_or w 0 0) 1) (get_or w 1 0)) in
+      let d = (table-known s f p.told).1 in
+      let first = after_on f w p.register t d (sample_tests t v r (eqb (get_or w 0 0) 1) (get_or w 1 0)) in
       let no : eqb (length v) (4 + 2 * point_total t) ≡ false = ne_eqb (length v) (4 + 2 * point_total t) (λ e. h (e ∙ ap (λ (k : ℕ). 4 + 2 * k) (sym d.points))) in
-      tests-refuse s f told z w (sample v r) 12 (sym (first ∙ fails _ _ no)) (λ (e : 12 ≡ 0). omega arith)
+      tests-refuse s f p.told w (sample v r) Length (sym (first ∙ fails _ _ no))
 
 -- one sample and nothing after it
 ends : (k n : ℕ) (e : Effect) → n ≡ e.response.number
@@ -67,7 +70,7 @@ module _ (s w v r : List ℕ) (size : length v ≡ sample_size (table_of s)) whe
       (turns_one s t w v r (omega (arith, size)))
       ∙ ap (and_then (illegal_total t) e.response.number e) (turns-none s t e.words (drop (sample_size t) v) (drop (illegal_total t) e.response.report) l)
 
-  pub one_done : (a : Taken) (w' r' : List ℕ) → Took (turns s t w v r) a w' r' → Done e a.number w' r'
+  pub one_done : (a : Taken) (w' r' : List ℕ) → Took (turns s t w v r) a w' r' → Done e a.end w' r'
   one_done a w' r' d =
       let b = ends (illegal_total t) e.response.number e refl in
       record {

@@ -1,5 +1,5 @@
 // What is needed of a table for its samples is worked out once, in arrays as large as it needs.
-ghost use Rattle.std.specs.Prelude.{◌≡◌, true, ◌≤◌};
+ghost use Rattle.std.specs.Prelude.{◌≡◌, true, ◌<◌, ◌≤◌, ◌+◌};
 ghost use Rattle.model.specs.Format.{accepted, table_of};
 ghost use Rattle.model.specs.Register.{counter_total};
 ghost use Rattle.layout.specs.Places.{layout_of};
@@ -18,34 +18,11 @@ use sampling::{Index, put_kinds};
 use table::answer::Facts;
 use turns::{Taken, each};
 
-// ---- size classes: a small table does not pay for the clearing of large arrays, nor for their room on the stack. It gets the first class that has room; what chooses it calls itself for the
-// next one, since a compiler then keeps the classes' arrays out of its frame and each other's. What holds the arrays of hits is never inlined, for the same reason.
+// ---- size classes: a small table does not pay for the clearing of large arrays, nor for their room on the stack. What declares arrays is not inlined: each size has a frame of its own.
 
-// How many words of plan, elements of lists, counters and hits a class has room for; the largest is for any table.
-const SMALL_PLAN: usize = 768;
-
-const SMALL_LISTS: usize = 3178;
-
-const SMALL_COUNTERS: usize = 512;
-
-const SMALL_HITS: usize = 768;
-
-const MEDIUM_PLAN: usize = 4608;
-
-const MEDIUM_LISTS: usize = 11074;
-
-const MEDIUM_COUNTERS: usize = 2048;
-
-const MEDIUM_HITS: usize = 2304;
-
-const LARGEST_PLAN: usize = 20432;
-
-const LARGEST_LISTS: usize = 17218;
-
-const LARGEST_HITS: usize = 12672;
-
+// All samples, in turn, by what was worked out of the table, with room for so many hits.
 #[inline(never)]
-fn take_small(
+fn hits_with<const HITS: usize>(
     register: &mut [u32],
     reports: &mut [u32],
     t: &[u8],
@@ -53,42 +30,10 @@ fn take_small(
     plan: &[u64],
     lists: &[u16],
 ) -> Taken
-    requires { Ready t.now register.old × Plans.Prepared (table_of t.now) plan.now lists.now × (counter_total (table_of t.now) ≤ 512) }
+    requires { Ready t.now register.old × Plans.Prepared (table_of t.now) plan.now lists.now × (counter_total (table_of t.now) + 256 ≤ HITS) × (HITS < 65536) }
     ensures { Took (turns t.now (table_of t.now) register.old s.now reports.old) result register.new reports.new }
 {
-    let mut hits = [0u16; SMALL_HITS];
-    each(register, reports, t, s, plan, lists, &mut hits)
-}
-
-#[inline(never)]
-fn take_medium(
-    register: &mut [u32],
-    reports: &mut [u32],
-    t: &[u8],
-    s: &[u32],
-    plan: &[u64],
-    lists: &[u16],
-) -> Taken
-    requires { Ready t.now register.old × Plans.Prepared (table_of t.now) plan.now lists.now × (counter_total (table_of t.now) ≤ 2048) }
-    ensures { Took (turns t.now (table_of t.now) register.old s.now reports.old) result register.new reports.new }
-{
-    let mut hits = [0u16; MEDIUM_HITS];
-    each(register, reports, t, s, plan, lists, &mut hits)
-}
-
-#[inline(never)]
-fn take_largest(
-    register: &mut [u32],
-    reports: &mut [u32],
-    t: &[u8],
-    s: &[u32],
-    plan: &[u64],
-    lists: &[u16],
-) -> Taken
-    requires { Ready t.now register.old × Plans.Prepared (table_of t.now) plan.now lists.now }
-    ensures { Took (turns t.now (table_of t.now) register.old s.now reports.old) result register.new reports.new }
-{
-    let mut hits = [0u16; LARGEST_HITS];
+    let mut hits = [0u16; HITS];
     each(register, reports, t, s, plan, lists, &mut hits)
 }
 
@@ -100,29 +45,23 @@ fn take(
     s: &[u32],
     plan: &[u64],
     lists: &[u16],
-    class: usize,
 ) -> Taken
     requires { Ready t.now register.old × Plans.Prepared (table_of t.now) plan.now lists.now }
     ensures { Took (turns t.now (table_of t.now) register.old s.now reports.old) result register.new reports.new }
 {
     let counters = element(lists, COUNTERS_AT) as usize;
-    if class == 0 {
-        if counters <= SMALL_COUNTERS {
-            return take_small(register, reports, t, s, plan, lists);
-        }
-        return take(register, reports, t, s, plan, lists, 1);
+    if counters <= 512 {
+        return hits_with::<768>(register, reports, t, s, plan, lists);
     }
-    if class == 1 {
-        if counters <= MEDIUM_COUNTERS {
-            return take_medium(register, reports, t, s, plan, lists);
-        }
-        return take(register, reports, t, s, plan, lists, 2);
+    if counters <= 2048 {
+        return hits_with::<2304>(register, reports, t, s, plan, lists);
     }
-    take_largest(register, reports, t, s, plan, lists)
+    hits_with::<12672>(register, reports, t, s, plan, lists)
 }
 
-// With the plan and the lists of a small table, of a medium one, and of any. kinds and x are the table's.
-fn small(
+// All samples, in turn, with so many words of plan and elements of lists. kinds and x are the table's.
+#[inline(never)]
+fn plan_with<const PLAN: usize, const LISTS: usize>(
     register: &mut [u32],
     reports: &mut [u32],
     t: &[u8],
@@ -130,47 +69,13 @@ fn small(
     kinds: &[u8],
     x: Index,
 ) -> Taken
-    requires { Ready t.now register.old × Indexed (table_of t.now) x × Labelled (table_of t.now) kinds.now × Sized (table_of t.now) 768 3178 }
+    requires { Ready t.now register.old × Indexed (table_of t.now) x × Labelled (table_of t.now) kinds.now × Sized (table_of t.now) PLAN LISTS × (PLAN < 65536) × (LISTS < 65536) }
     ensures { Took (turns t.now (table_of t.now) register.old s.now reports.old) result register.new reports.new }
 {
-    let mut plan = [0u64; SMALL_PLAN];
-    let mut lists = [0u16; SMALL_LISTS];
+    let mut plan = [0u64; PLAN];
+    let mut lists = [0u16; LISTS];
     prepare(&mut plan, &mut lists, t, kinds, x);
-    take(register, reports, t, s, &plan, &lists, 0)
-}
-
-fn medium(
-    register: &mut [u32],
-    reports: &mut [u32],
-    t: &[u8],
-    s: &[u32],
-    kinds: &[u8],
-    x: Index,
-) -> Taken
-    requires { Ready t.now register.old × Indexed (table_of t.now) x × Labelled (table_of t.now) kinds.now × Sized (table_of t.now) 4608 11074 }
-    ensures { Took (turns t.now (table_of t.now) register.old s.now reports.old) result register.new reports.new }
-{
-    let mut plan = [0u64; MEDIUM_PLAN];
-    let mut lists = [0u16; MEDIUM_LISTS];
-    prepare(&mut plan, &mut lists, t, kinds, x);
-    take(register, reports, t, s, &plan, &lists, 0)
-}
-
-fn largest(
-    register: &mut [u32],
-    reports: &mut [u32],
-    t: &[u8],
-    s: &[u32],
-    kinds: &[u8],
-    x: Index,
-) -> Taken
-    requires { Ready t.now register.old × Indexed (table_of t.now) x × Labelled (table_of t.now) kinds.now }
-    ensures { Took (turns t.now (table_of t.now) register.old s.now reports.old) result register.new reports.new }
-{
-    let mut plan = [0u64; LARGEST_PLAN];
-    let mut lists = [0u16; LARGEST_LISTS];
-    prepare(&mut plan, &mut lists, t, kinds, x);
-    take(register, reports, t, s, &plan, &lists, 0)
+    take(register, reports, t, s, &plan, &lists)
 }
 
 // At least as many words as the rows of the sequences and the plan of the values need.
@@ -184,15 +89,14 @@ fn room_for(t: &[u8], x: Index) -> usize
     rows + plan_words(l.range_count, x)
 }
 
-// The class. kinds and x are the table's.
-fn classed(
+// All samples, in turn. kinds and x are the table's.
+fn planned(
     register: &mut [u32],
     reports: &mut [u32],
     t: &[u8],
     s: &[u32],
     kinds: &[u8],
     x: Index,
-    class: usize,
 ) -> Taken
     requires { Ready t.now register.old × Indexed (table_of t.now) x × Labelled (table_of t.now) kinds.now }
     ensures { Took (turns t.now (table_of t.now) register.old s.now reports.old) result register.new reports.new }
@@ -200,74 +104,29 @@ fn classed(
     let points = x.points;
     let counters = x.counters;
     let need = room_for(t, x);
-    if class == 0 {
-        if (points <= 4) & (counters <= SMALL_COUNTERS) & (need <= SMALL_PLAN) {
-            return small(register, reports, t, s, kinds, x);
-        }
-        return classed(register, reports, t, s, kinds, x, 1);
+    if (points <= 4) & (counters <= 512) & (need <= 768) {
+        return plan_with::<768, 3178>(register, reports, t, s, kinds, x);
     }
-    if class == 1 {
-        if (counters <= MEDIUM_COUNTERS) & (need <= MEDIUM_PLAN) {
-            return medium(register, reports, t, s, kinds, x);
-        }
-        return classed(register, reports, t, s, kinds, x, 2);
+    if (counters <= 2048) & (need <= 4608) {
+        return plan_with::<4608, 11074>(register, reports, t, s, kinds, x);
     }
-    largest(register, reports, t, s, kinds, x)
+    plan_with::<20432, 17218>(register, reports, t, s, kinds, x)
 }
 
-// With the kinds of few counters, and with those of many.
-fn few(register: &mut [u32], reports: &mut [u32], t: &[u8], s: &[u32]) -> Taken
-    requires { Ready t.now register.old × Roomy (table_of t.now) 1024 }
-    ensures { Took (turns t.now (table_of t.now) register.old s.now reports.old) result register.new reports.new }
-{
-    let mut kinds = [0u8; 1024];
-    let x = put_kinds(&mut kinds, t);
-    classed(register, reports, t, s, &kinds, x, 0)
-}
-
-fn some(register: &mut [u32], reports: &mut [u32], t: &[u8], s: &[u32]) -> Taken
-    requires { Ready t.now register.old × Roomy (table_of t.now) 4096 }
-    ensures { Took (turns t.now (table_of t.now) register.old s.now reports.old) result register.new reports.new }
-{
-    let mut kinds = [0u8; 4096];
-    let x = put_kinds(&mut kinds, t);
-    classed(register, reports, t, s, &kinds, x, 0)
-}
-
-fn many(register: &mut [u32], reports: &mut [u32], t: &[u8], s: &[u32]) -> Taken
-    requires { Ready t.now register.old }
-    ensures { Took (turns t.now (table_of t.now) register.old s.now reports.old) result register.new reports.new }
-{
-    let mut kinds = [0u8; 12416];
-    let x = put_kinds(&mut kinds, t);
-    classed(register, reports, t, s, &kinds, x, 0)
-}
-
-// The class of the kinds. f are the table's facts.
-fn kinded(
+// All samples, in turn, with the kinds of so many counters.
+#[inline(never)]
+fn kinds_with<const KINDS: usize>(
     register: &mut [u32],
     reports: &mut [u32],
     t: &[u8],
     s: &[u32],
-    f: Facts,
-    class: usize,
 ) -> Taken
-    requires { Ready t.now register.old × Describes f (table_of t.now) }
+    requires { Ready t.now register.old × Roomy (table_of t.now) KINDS × (KINDS < 65536) }
     ensures { Took (turns t.now (table_of t.now) register.old s.now reports.old) result register.new reports.new }
 {
-    if class == 0 {
-        if (f.points <= 4) & (f.counters <= 1024) {
-            return few(register, reports, t, s);
-        }
-        return kinded(register, reports, t, s, f, 1);
-    }
-    if class == 1 {
-        if f.counters <= 4096 {
-            return some(register, reports, t, s);
-        }
-        return kinded(register, reports, t, s, f, 2);
-    }
-    many(register, reports, t, s)
+    let mut kinds = [0u8; KINDS];
+    let x = put_kinds(&mut kinds, t);
+    planned(register, reports, t, s, &kinds, x)
 }
 
 // All samples, in turn: f are the table's facts. Without samples nothing is worked out.
@@ -275,11 +134,17 @@ pub fn all(register: &mut [u32], reports: &mut [u32], t: &[u8], s: &[u32], f: Fa
     requires { Ready t.now register.old × Describes f (table_of t.now) }
     ensures { Took (turns t.now (table_of t.now) register.old s.now reports.old) result register.new reports.new }
 {
-    if s.len() == 0 {
+    if s.is_empty() {
         return Taken {
-            number: 0,
             taken: 0,
+            end: Ok(()),
         };
     }
-    kinded(register, reports, t, s, f, 0)
+    if (f.points <= 4) & (f.counters <= 1024) {
+        return kinds_with::<1024>(register, reports, t, s);
+    }
+    if f.counters <= 4096 {
+        return kinds_with::<4096>(register, reports, t, s);
+    }
+    kinds_with::<12416>(register, reports, t, s)
 }

@@ -1,78 +1,89 @@
 -- Sections 8 and 9: the tests of a cross by its fields, and the cross bins in one row.
 -- Assumes nothing.
-use Prim.Native.Nat.{ℕ, zero, suc, ◌+◌, ◌*◌, ◌<◌, ◌≤◌}
+use Rattle.std.proofs.Common.{Result, Ok, Err}
+use Prim.Native.Nat.{ℕ, zero, suc, ◌+◌, ◌-◌, ◌*◌, ◌<◌, ◌≤◌}
 use mathlib.Core.Path.{◌≡◌, refl, ap, sym, ◌∙◌, subst}
-use mathlib.Core.Bool.{Bool, true, cond, and-true, or-false}
+use mathlib.Core.Bool.{Bool, true, false, not, ◌&&◌, ◌||◌, cond}
 use mathlib.Core.List.{List, [], ◌∷◌, map}
 use native.Mathlib.Omega.{arith}
 use lib.Dec.{leb, ltb, eqb}
-use lib.ListN.{length}
-use borrow.Author.Tests.{leb-true, ltb-true, lt-ltb, le-leb}
-use Rattle.model.specs.Lists.{up_from, any, sum_of, within}
-use Rattle.model.specs.Format.{Test, field, unused, count, disagreement, byte, u16, u32, guard_ok, times, each, all_different, cross_points, cross_point_test, cross_tests, cross_head, CrossHead, cross_bins_owned, read_cross, cross_bin_tests, cross_bin_head, read_cross_bin, read_cross_bins, read_cross_bin_section, section_count, owned_count, read_cross_section}
+use borrow.Author.Tests.{leb-true, ltb-true, lt-ltb, eq-eqb, ne_eqb}
+use Rattle.model.specs.Lists.{up_from, any, sum_of}
+use Rattle.model.specs.Format.{Test, field, unused, byte, u16, times, each, all_different, cross_point_test, cross_tests, cross_head, CrossHead, cross_bins_owned, read_cross, cross_bin_tests, cross_bin_head, read_cross_bin, read_cross_bins, read_cross_bin_section, section_count, owned_count, read_cross_section}
 use Rattle.model.specs.Raw.{rows}
+use Rattle.model.proofs.Lists.{none_left, one_left}
 use Rattle.model.proofs.Booleans.{and_left, and_right}
 use Rattle.model.proofs.Readers.{AllPass, bind_elim}
 use Rattle.model.proofs.Access.{section-count, records}
-use Rattle.words.specs.Verdicts.{verdict, verdict_of, verdict_in, unless_ok}
+use Rattle.words.specs.Verdicts.{Verdict, verdict_of, verdict_in, pass}
+use Rattle.words.specs.Verdicts as words
 use Rattle.words.specs.Sums.{sum_from}
-use Rattle.words.specs.declared.verdicts.Verdict.{Verdict}
+use Rattle.words.specs.declared.verdicts.Fault.{Fault}
+use Rattle.words.specs.declared.verdicts.FaultClass.{FaultClass}
 use Rattle.words.proofs.Laws.{verdict_record, sound-got}
 use Rattle.words.proofs.Chain.{bind_done, owned_on}
 use Rattle.check_tokens.specs.Tokens.{CrossOk}
-use Rattle.check_crosses.specs.Crosses.{pairs_differ, points_differ, cross_end, CrossesOk}
-use Rattle.words.proofs.Laws.{unless-same}
+use Rattle.check_tokens.proofs.TokenLaws.{one_stop, one_on}
+use Rattle.check_crosses.specs.Crosses.{point_tests, CrossesOk}
 use Rattle.words.proofs.Flat.{times-same, each_times}
 
 -- ---- a cross
 
-pub all_different_lem : (f : ℕ → ℕ) (n : ℕ) → within 2 4 n ≡ true → all_different (map f (up_from 0 n)) ≡ pairs_differ n (f 0) (f 1) (f 2) (f 3)
-unfolding all_different any up_from pairs_differ
-all_different_lem f zero h = absurd (let y : 2 ≤ 0 = leb-true 2 0 (and_left (leb 2 0) (leb 0 4) h) in omega arith)
-all_different_lem f (suc zero) h = absurd (let y : 2 ≤ 1 = leb-true 2 1 (and_left (leb 2 1) (leb 1 4) h) in omega arith)
-all_different_lem f (suc (suc zero)) h = refl
-all_different_lem f (suc (suc (suc zero))) h = refl
-all_different_lem f (suc (suc (suc (suc zero)))) h = simp (or-false, and-true)
-all_different_lem f (suc (suc (suc (suc (suc n))))) h =
-    absurd (let m = suc (suc (suc (suc (suc n)))) in let y : m ≤ 4 = leb-true m 4 (and_right (leb 2 m) (leb m 4) h) in omega arith)
+-- whether a number stands in a row of them, and whether those of a row are different
+module _ (f : ℕ → ℕ) where
+  module _ (a m j : ℕ) (x : Bool) (inv : x ≡ not (any (eqb a) (map f (up_from j (m - j))))) where
+    next_in : j < m → x ≡ not (eqb a (f j) || any (eqb a) (map f (up_from (j + 1) (m - (j + 1)))))
+    unfolding up_from any
+    next_in h = (rw (one_left m j h) at inv) ∙ ap (λ (k : ℕ). not (eqb a (f j) || any (eqb a) (map f (up_from k (m - (j + 1)))))) (let y : suc j ≡ j + 1 = omega arith in y)
 
-points_different : (s : List ℕ) (at : ℕ) → within 2 4 (byte s at) ≡ true → all_different (cross_points s at) ≡ points_differ s at
-unfolding points_differ
-points_different s at h =
-    let e₀ : at + 1 + 0 ≡ at + 1 = omega arith in
-    let e₁ : at + 1 + 1 ≡ at + 2 = omega arith in
-    let e₂ : at + 1 + 2 ≡ at + 3 = omega arith in
-    let e₃ : at + 1 + 3 ≡ at + 4 = omega arith in
-    all_different_lem (λ i. byte s (at + 1 + i)) (byte s at) h
-    ∙ (let y : pairs_differ (byte s at) (byte s (at + 1 + 0)) (byte s (at + 1 + 1)) (byte s (at + 1 + 2)) (byte s (at + 1 + 3)) ≡ pairs_differ (byte s at) (byte s (at + 1)) (byte s (at + 2)) (byte s (at + 3)) (byte s (at + 4)) = (cc) in y)
+    pub in-stop : j < m → a ≡ f j → false ≡ x
+    in-stop h e = sym (next_in h ∙ (rw (eq-eqb a (f j) e)))
 
--- the tests by their fields, the points one by one
-verdict-cross : (s : List ℕ) (points at : ℕ)
-    → verdict_of (read_cross s points at)
-    ≡ unless_ok (leb (at + 13) (length s)) 2 at (unless_ok (within 2 4 (byte s at)) 15 at
-    (verdict_in (cross_point_test s points at 0 ∷ []) (verdict_in (cross_point_test s points at 1 ∷ []) (verdict_in (cross_point_test s points at 2 ∷ []) (verdict_in (cross_point_test s points at 3 ∷ [])
-    (verdict_in (cross_end s at) (verdict 0 (at + 13))))))))
-unfolding read_cross verdict_in up_from cross_end
-verdict-cross s points at =
-    verdict_record s 13 (cross_tests s points) (cross_head s) at
-    ∙ ap (unless_ok (leb (at + 13) (length s)) 2 at) (unless-same (within 2 4 (byte s at)) 15 at _ _ λ h. ap (λ (b : Bool). after b) (points_different s at h))
-  where
-    after : Bool → Verdict
-    after b =
-        verdict_in (cross_point_test s points at 0 ∷ cross_point_test s points at 1 ∷ cross_point_test s points at 2 ∷ cross_point_test s points at 3
-        ∷ (guard_ok (byte s (at + 5)), field, at + 5)
-        ∷ (leb 1 (u32 s (at + 8)), field, at + 8)
-        ∷ (leb (byte s (at + 12)) 16, count, at + 12)
-        ∷ (b, disagreement, at)
-        ∷ []) (verdict 0 (at + 13))
+    pub in-on : j < m → (a ≡ f j → ⊥) → x ≡ not (any (eqb a) (map f (up_from (j + 1) (m - (j + 1)))))
+    in-on h e = next_in h ∙ (rw (ne_eqb a (f j) e))
 
--- one that is whole: its tests
-pub cross-whole : (s : List ℕ) (points at : ℕ) (r : Verdict) → at + 13 ≤ length s
-    → r ≡ unless_ok (within 2 4 (byte s at)) 15 at
-    (verdict_in (cross_point_test s points at 0 ∷ []) (verdict_in (cross_point_test s points at 1 ∷ []) (verdict_in (cross_point_test s points at 2 ∷ []) (verdict_in (cross_point_test s points at 3 ∷ [])
-    (verdict_in (cross_end s at) (verdict 0 (at + 13)))))))
-    → r ≡ verdict_of (read_cross s points at)
-cross-whole s points at r w e = e ∙ sym (rw (le-leb (at + 13) (length s) w) at (verdict-cross s points at))
+    pub in-done : m ≤ j → x ≡ true
+    unfolding up_from any
+    in-done h = rw (none_left m j h) at inv
+
+  module _ (m i : ℕ) (x : Bool) (inv : x ≡ all_different (map f (up_from i (m - i)))) where
+    different-in : i < m → x ≡ (not (any (eqb (f i)) (map f (up_from (i + 1) (m - (i + 1))))) && all_different (map f (up_from (i + 1) (m - (i + 1)))))
+    unfolding up_from all_different
+    different-in h =
+        (rw (one_left m i h) at inv)
+        ∙ ap (λ (k : ℕ). not (any (eqb (f i)) (map f (up_from k (m - (i + 1))))) && all_different (map f (up_from k (m - (i + 1))))) (let y : suc i ≡ i + 1 = omega arith in y)
+
+    pub different-stop : i < m → false ≡ not (any (eqb (f i)) (map f (up_from (i + 1) (m - (i + 1))))) → false ≡ x
+    different-stop h e = ap (◌&& all_different (map f (up_from (i + 1) (m - (i + 1))))) e ∙ sym (different-in h)
+
+    pub different-on : i < m → not (any (eqb (f i)) (map f (up_from (i + 1) (m - (i + 1))))) ≡ true → x ≡ all_different (map f (up_from (i + 1) (m - (i + 1))))
+    different-on h e = different-in h ∙ ap (◌&& all_different (map f (up_from (i + 1) (m - (i + 1))))) e
+
+    pub different-done : m ≤ i → true ≡ x
+    unfolding up_from all_different
+    different-done h = sym (rw (none_left m i h) at inv)
+
+-- the tests on the points
+module _ (s : List ℕ) (points at m i : ℕ) (x : Result Unit Fault) (inv : x ≡ verdict_in (point_tests s points at i (m - i)) pass) where
+  next_test : i < m → x ≡ verdict_in (cross_point_test s points at i ∷ point_tests s points at (i + 1) (m - (i + 1))) pass
+  unfolding point_tests up_from
+  next_test h =
+      (rw (one_left m i h) at inv)
+      ∙ ap (λ (k : ℕ). verdict_in (cross_point_test s points at i ∷ map (cross_point_test s points at) (up_from k (m - (i + 1)))) pass) (let y : suc i ≡ i + 1 = omega arith in y)
+
+  pub points-stop : (f : Fault) → i < m → Err f ≡ verdict_in (cross_point_test s points at i ∷ []) pass → Err f ≡ x
+  points-stop f h e = one_stop pass (point_tests s points at (i + 1) (m - (i + 1))) (cross_point_test s points at i) f e ∙ sym (next_test h)
+
+  pub points-on : i < m → pass ≡ verdict_in (cross_point_test s points at i ∷ []) pass → x ≡ verdict_in (point_tests s points at (i + 1) (m - (i + 1))) pass
+  points-on h e = next_test h ∙ sym (one_on pass (point_tests s points at (i + 1) (m - (i + 1))) (cross_point_test s points at i) _ e refl)
+
+  pub points-done : m ≤ i → pass ≡ x
+  unfolding point_tests up_from verdict_in
+  points-done h = sym (rw (none_left m i h) at inv)
+
+pub passed-test : (ok : Bool) (class : FaultClass) (at : ℕ) → pass ≡ words.tested ok class at → ok ≡ true
+passed-test true class at e = refl
+passed-test false class at e = absurd (cc)
 
 -- what its tests grant
 pub cross-ok : (s : List ℕ) (points at : ℕ) → AllPass (cross_tests s points at) → CrossOk s points at
@@ -99,17 +110,29 @@ cross-ok s points at h = record {
     go (suc (suc (suc (suc j)))) l = absurd (omega (arith, four))
 
 -- the crosses of a section that is sound
-pub crosses-ok : (s : List ℕ) (points at : ℕ) (r : Verdict) → r ≡ verdict_of (read_cross_section s points at) → r.number ≡ 0 → CrossesOk s points (at + 2) (u16 s at)
+pub crosses-ok : (s : List ℕ) (points at end : ℕ) → Ok end ≡ verdict_of (read_cross_section s points at) → CrossesOk s points (at + 2) (u16 s at)
 unfolding read_cross_section read_cross
-crosses-ok s points at r e z i l =
-    sound-got (read_cross_section s points at) r e z λ xs g.
+crosses-ok s points at end e i l =
+    sound-got (read_cross_section s points at) end e λ xs g.
     bind_elim (section_count s 0 8) _ at g λ n next e₁ e₂.
     let c = section-count s 0 8 at n next e₁ in
-    let rs = records s 13 (cross_tests s points) (cross_head s) (cross_head s at) n next xs r.at e₂ in
+    let rs = records s 13 (cross_tests s points) (cross_head s) (cross_head s at) n next xs end e₂ in
     let here : at + 2 + 13 * i ≡ next + i * 13 = omega (arith, c.begins) in
     subst (CrossOk s points) (sym here) (cross-ok s points (next + i * 13) (rs.2.record_at i (omega (arith, c.said, rs.0))).passed)
 
 -- ---- cross bins
+
+-- a sum over records is one over their bytes, where each gives one of its bytes
+pub bytes_summed : {A : Type 0} (s : List ℕ) (f : A → ℕ) (says : ℕ → A) (size offset : ℕ) → ((at : ℕ) → f (says at) ≡ byte s (at + offset))
+    → (n at : ℕ) → sum_from 0 (λ (b : ℕ). b) (byte s) size (at + offset) n ≡ sum_from 0 f says size at n
+unfolding sum_from sum_of rows
+bytes_summed s f says size offset h zero at = refl
+bytes_summed s f says size offset h (suc n) at =
+    let rest = sum_of (λ (b : ℕ). b) (rows (byte s) size (at + offset + size) n) in
+    let e : rest ≡ sum_of (λ (b : ℕ). b) (rows (byte s) size (at + size + offset) n) = ap (λ (k : ℕ). sum_of (λ (b : ℕ). b) (rows (byte s) size k n)) (let y : at + offset + size ≡ at + size + offset = omega arith in y) in
+    let tail : 0 + sum_of (λ (b : ℕ). b) (rows (byte s) size (at + size + offset) n) ≡ 0 + sum_of f (rows says size (at + size) n) = bytes_summed s f says size offset h n (at + size) in
+    let first : f (says at) ≡ byte s (at + offset) = h at in
+    omega arith
 
 pub verdict-bin : (s : List ℕ) (points : List ℕ) (at : ℕ) → verdict_of (read_cross_bin s points at) ≡ verdict_of (read_cross_bin s [] at)
 unfolding read_cross_bin
@@ -121,10 +144,10 @@ bins_flat s = each_times (read_cross_bins s) (read_cross_bin s []) cross_bins_ow
     sym (bind_done (times h.bins (read_cross_bin s h.points)) (λ bs. record { head = h; bins = bs }) at _ refl)
     ∙ times-same (read_cross_bin s h.points) (read_cross_bin s []) (verdict-bin s h.points) h.bins at
 
-pub bins_on : (s : List ℕ) (c n at sum : ℕ) (q y : Verdict) → sum ≡ sum_from 0 cross_bins_owned (cross_head s) 13 c n → q ≡ verdict_of (owned_count s 128 sum at) → q.number ≡ 0
-    → y ≡ verdict_of (times sum (read_cross_bin s []) q.at) → y ≡ verdict_of (read_cross_bin_section s (rows (cross_head s) 13 c n) at)
+pub bins_on : (s : List ℕ) (c n at sum next : ℕ) (y : Verdict) → sum ≡ sum_from 0 cross_bins_owned (cross_head s) 13 c n → Ok next ≡ verdict_of (owned_count s 128 sum at)
+    → y ≡ verdict_of (times sum (read_cross_bin s []) next) → y ≡ verdict_of (read_cross_bin_section s (rows (cross_head s) 13 c n) at)
 unfolding read_cross_bin_section sum_from
-bins_on s c n at sum q y own e z h =
+bins_on s c n at sum next y own e h =
     let total : sum ≡ sum_of cross_bins_owned (rows (cross_head s) 13 c n) = own ∙ omega arith in
-    owned_on cross_bins_owned (cross_head s) 13 c n s 128 at sum (λ k. each (read_cross_bins s) (rows (cross_head s) 13 c n)) own q y e z
-    (h ∙ ap (λ (k : ℕ). verdict_of (times k (read_cross_bin s []) q.at)) total ∙ sym (bins_flat s (rows (cross_head s) 13 c n) q.at))
+    owned_on cross_bins_owned (cross_head s) 13 c n s 128 at sum (λ k. each (read_cross_bins s) (rows (cross_head s) 13 c n)) own next y e
+    (h ∙ ap (λ (k : ℕ). verdict_of (times k (read_cross_bin s []) next)) total ∙ sym (bins_flat s (rows (cross_head s) 13 c n) next))

@@ -1,11 +1,10 @@
 -- Section 10: cross bin by cross bin, and cross by cross.
 -- Assumes nothing.
 use Prim.Native.Nat.{ℕ, zero, suc, ◌+◌, ◌-◌, ◌*◌, ◌<◌, ◌≤◌}
-use mathlib.Core.Path.{◌≡◌, refl, ap, ap₂, sym, ◌∙◌, subst}
-use mathlib.Core.Bool.{Bool}
+use mathlib.Core.Path.{◌≡◌, refl, ap, ap₂, sym, ◌∙◌}
+use mathlib.Core.Bool.{Bool, true, false}
 use mathlib.Core.List.{List, [], ◌∷◌}
 use mathlib.Core.Option.{Option, none, some}
-use native.Mathlib.Nat.{sub-zero}
 use native.Mathlib.Omega.{arith}
 use lib.Dec.{eqb-zero-suc, eqb-suc-suc}
 use lib.ListN.{length}
@@ -15,49 +14,63 @@ use Rattle.model.specs.Format.{BinHead, byte, times, each, cross_points, cross_h
 use Rattle.model.specs.Raw.{rows, cross_bin_heads_at, cross_heads_at, token_total}
 use Rattle.model.proofs.RawCrosses.{token-total, select_of, selects_in}
 use Rattle.model.proofs.Lists.{none_left, one_left}
-use Rattle.words.specs.Verdicts.{verdict, verdict_of, unless_ok}
+use Rattle.std.proofs.Common.{Ok, Err}
+use Rattle.words.specs.Verdicts.{Verdict, verdict_of, unless_fault, fault_at, pass}
+use Rattle.words.specs.Verdicts as words
 use Rattle.words.specs.Sums.{sum_from}
-use Rattle.words.specs.declared.verdicts.Verdict.{Verdict}
+use Rattle.words.specs.declared.verdicts.Fault.{Fault}
+use Rattle.words.specs.declared.verdicts.FaultClass.TheVariants.{Disagreement}
+use Rattle.check_crosses.proofs.CrossLaws.{passed-test}
 use Rattle.words.proofs.Laws.{owners_done, owners_stop, owners_on}
 use Rattle.words.proofs.Chain.{bind_stop, bind_done, rows_on}
-use Rattle.check_tokens.specs.Tokens.{CrossOk, found}
-use Rattle.check_crosses.specs.Crosses.{CrossesOk}
+use Rattle.check_tokens.specs.Tokens.{found}
 use Rattle.words.proofs.Chain.{says_in, count_stop, count_on}
 
 -- ---- one cross bin
 
-verdict_one : (o : Option (List Select)) (end : ℕ) → verdict_of (one_expression o end) ≡ unless_ok (found 1 o) 4 (end - 20) (verdict 0 end)
+verdict_one : (o : Option (List Select)) (end : ℕ) → verdict_of (one_expression o end) ≡ unless_fault (found 1 o) Disagreement (end - 20) (Ok end)
 unfolding verdict_of found
 verdict_one none end = refl
 verdict_one (some []) end = refl
 verdict_one (some (e ∷ [])) end = refl
-verdict_one (some (e ∷ f ∷ es)) end = sym (ap (λ (b : Bool). unless_ok b 4 (end - 20) (verdict 0 end)) (eqb-suc-suc 0 (suc (length es)) ∙ eqb-zero-suc (length es)))
+verdict_one (some (e ∷ f ∷ es)) end = sym (ap (λ (b : Bool). unless_fault b Disagreement (end - 20) (Ok end)) (eqb-suc-suc 0 (suc (length es)) ∙ eqb-zero-suc (length es)))
 
-module _ (s : List ℕ) (ps : List Point) (bins : List BinHead) (c b n at : ℕ) (q : Verdict) (number : n ≡ byte s (b + 2)) (e : q ≡ verdict_of (times n (read_token s ps bins (cross_points s c)) at)) where
-  tokens_read : q ≡ verdict_of (times (byte s (b + 2)) (read_token s ps bins (cross_points s c)) at)
-  tokens_read = e ∙ ap (λ (k : ℕ). verdict_of (times k (read_token s ps bins (cross_points s c)) at)) number
+module _ (s : List ℕ) (ps : List Point) (bins : List BinHead) (c b n at : ℕ) (number : n ≡ byte s (b + 2)) where
+  tokens_read : (q : Verdict) → q ≡ verdict_of (times n (read_token s ps bins (cross_points s c)) at) → q ≡ verdict_of (times (byte s (b + 2)) (read_token s ps bins (cross_points s c)) at)
+  tokens_read q e = e ∙ ap (λ (k : ℕ). verdict_of (times k (read_token s ps bins (cross_points s c)) at)) number
 
-  pub select_stop : (q.number ≡ 0 → ⊥) → q ≡ verdict_of (read_select s ps bins (cross_bin_head s (cross_points s c) b) at)
+  pub select_stop : (f : Fault) → Err f ≡ verdict_of (times n (read_token s ps bins (cross_points s c)) at) → Err f ≡ verdict_of (read_select s ps bins (cross_bin_head s (cross_points s c) b) at)
   unfolding read_select
-  select_stop z = bind_stop (times (byte s (b + 2)) (read_token s ps bins (cross_points s c))) _ at q tokens_read z
+  select_stop f e = bind_stop (times (byte s (b + 2)) (read_token s ps bins (cross_points s c))) _ at f (tokens_read (Err f) e)
 
-  pub select_on : (one : Bool) (last : ℕ) (end y : Verdict) → q.number ≡ 0 → one ≡ found 1 (expressions (rows (token_record s) 20 at n)) → last ≡ q.at - 20 → end ≡ verdict 0 q.at → y ≡ unless_ok one 4 last end
-      → y ≡ verdict_of (read_select s ps bins (cross_bin_head s (cross_points s c) b) at)
-  unfolding read_select read_token
-  select_on one last end y z o l v h =
-      rows_on s 20 (token_tests s ps bins (cross_points s c)) (token_record s) _ (byte s (b + 2)) at q y tokens_read z
-      (bind_done (one_expression (expressions (rows (token_record s) 20 at (byte s (b + 2))))) _ q.at y
-      (h ∙ ap₂ (unless_ok one 4) l v ∙ ap (λ (x : Bool). unless_ok x 4 (q.at - 20) (verdict 0 q.at)) (o ∙ ap (λ (k : ℕ). found 1 (expressions (rows (token_record s) 20 at k))) number)
-      ∙ sym (verdict_one (expressions (rows (token_record s) 20 at (byte s (b + 2)))) q.at)))
+  module _ (end : ℕ) (e : Ok end ≡ verdict_of (times n (read_token s ps bins (cross_points s c)) at)) (one : Bool) (last : ℕ) (o : one ≡ found 1 (expressions (rows (token_record s) 20 at n))) (l : last ≡ end - 20) where
+    select_on : (y : Verdict) → y ≡ unless_fault one Disagreement last (Ok end) → y ≡ verdict_of (read_select s ps bins (cross_bin_head s (cross_points s c) b) at)
+    unfolding read_select read_token
+    select_on y h =
+        rows_on s 20 (token_tests s ps bins (cross_points s c)) (token_record s) _ (byte s (b + 2)) at end y (tokens_read (Ok end) e)
+        (bind_done (one_expression (expressions (rows (token_record s) 20 at (byte s (b + 2))))) _ end y
+        (h ∙ ap (λ (x : ℕ). unless_fault one Disagreement x (Ok end)) l ∙ ap (λ (x : Bool). unless_fault x Disagreement (end - 20) (Ok end)) (o ∙ ap (λ (k : ℕ). found 1 (expressions (rows (token_record s) 20 at k))) number)
+        ∙ sym (verdict_one (expressions (rows (token_record s) 20 at (byte s (b + 2)))) end)))
+
+    -- the tokens are not one expression, or they are
+    pub select_refused : (f : Fault) → Err f ≡ words.tested one Disagreement last → Err f ≡ verdict_of (read_select s ps bins (cross_bin_head s (cross_points s c) b) at)
+    select_refused f h = select_on (Err f) (go one h)
+      where
+        go : (b : Bool) → Err f ≡ words.tested b Disagreement last → Err f ≡ unless_fault b Disagreement last (Ok end)
+        go true h = absurd (cc)
+        go false h = ap (λ (q : Fault). Err q) (let y : f ≡ fault_at Disagreement last = cc in y)
+
+    pub select_read : pass ≡ words.tested one Disagreement last → Ok end ≡ verdict_of (read_select s ps bins (cross_bin_head s (cross_points s c) b) at)
+    select_read h = select_on (Ok end) (sym (ap (λ (x : Bool). unless_fault x Disagreement last (Ok end)) (passed-test one Disagreement last h)))
 
 -- ---- the bins of one cross, and those of all
 
 module _ (s : List ℕ) (ps : List Point) (bins : List BinHead) where
-  pub select_in : (c b at : ℕ) (r : Verdict) → at ≤ length s → r ≡ verdict_of (read_select s ps bins (cross_bin_head s (cross_points s c) b) at) → r.number ≡ 0 → r.at ≤ length s
-  select_in c b at r h e z = says_in _ _ _ (length s) r (select_of s ps bins c b at h) e z
+  pub select_in : (c b at end : ℕ) → at ≤ length s → Ok end ≡ verdict_of (read_select s ps bins (cross_bin_head s (cross_points s c) b) at) → end ≤ length s
+  select_in c b at end h e = says_in _ _ _ (length s) end (select_of s ps bins c b at h) e
 
-  pub selects_end : (c b n at : ℕ) (r : Verdict) → at ≤ length s → r ≡ verdict_of (each (read_select s ps bins) (cross_bin_heads_at s c b n) at) → r.number ≡ 0 → r.at ≤ length s
-  selects_end c b n at r h e z = says_in _ _ _ (length s) r (selects_in s ps bins c n b at h) e z
+  pub selects_end : (c b n at end : ℕ) → at ≤ length s → Ok end ≡ verdict_of (each (read_select s ps bins) (cross_bin_heads_at s c b n) at) → end ≤ length s
+  selects_end c b n at end h e = says_in _ _ _ (length s) end (selects_in s ps bins c n b at h) e
 
   -- the bins of the cross at c, k in number
   abbrev parts_at : ℕ → ℕ → ℕ → CrossParts CrossBinHead
@@ -67,31 +80,25 @@ module _ (s : List ℕ) (ps : List Point) (bins : List BinHead) where
   unfolding read_selects
   verdict_cross_bins c b k at = sym (bind_done (each (read_select s ps bins) (cross_bin_heads_at s c b k)) _ at _ refl)
 
-  pub heads_start : (n c b at : ℕ) → verdict_of (each (read_selects s ps bins) (cross_heads_at s c b n) at) ≡ verdict_of (each (read_selects s ps bins) (cross_heads_at s c b (n - 0)) at)
-  heads_start n c b at = rw sub-zero
-
   module _ (m i c b at : ℕ) (x : Verdict) (inv : x ≡ verdict_of (each (read_selects s ps bins) (cross_heads_at s c b (m - i)) at)) where
-    pub heads_done : (r : Verdict) → m ≤ i → r ≡ verdict 0 at → r ≡ x
+    pub heads_done : m ≤ i → Ok at ≡ x
     unfolding cross_heads_at
-    heads_done r h e = owners_done (read_selects s ps bins) (cross_heads_at s c b (m - i)) at x inv r (ap (cross_heads_at s c b) (none_left m i h)) e
+    heads_done h = owners_done (read_selects s ps bins) (cross_heads_at s c b (m - i)) at x inv (ap (cross_heads_at s c b) (none_left m i h))
 
     parts : (k : ℕ) → k ≡ byte s (c + 12) → i < m → cross_heads_at s c b (m - i) ≡ parts_at c b k ∷ cross_heads_at s (c + 13) (b + 3 * k) (m - (i + 1))
     unfolding cross_heads_at
     parts k e h = ap (cross_heads_at s c b) (one_left m i h) ∙ ap (λ (k : ℕ). parts_at c b k ∷ cross_heads_at s (c + 13) (b + 3 * k) (m - (i + 1))) (sym e)
 
-    pub heads-stop : (k : ℕ) (r : Verdict) → k ≡ byte s (c + 12) → i < m → r ≡ verdict_of (each (read_select s ps bins) (cross_bin_heads_at s c b k) at) → (r.number ≡ 0 → ⊥) → r ≡ x
-    heads-stop k r e h f z =
-        owners_stop (read_selects s ps bins) (cross_heads_at s c b (m - i)) at x inv (parts_at c b k) (cross_heads_at s (c + 13) (b + 3 * k) (m - (i + 1))) r (parts k e h)
-        (f ∙ sym (verdict_cross_bins c b k at)) z
+    pub heads-stop : (k : ℕ) (f : Fault) → k ≡ byte s (c + 12) → i < m → Err f ≡ verdict_of (each (read_select s ps bins) (cross_bin_heads_at s c b k) at) → Err f ≡ x
+    heads-stop k f e h r =
+        owners_stop (read_selects s ps bins) (cross_heads_at s c b (m - i)) at x inv (parts_at c b k) (cross_heads_at s (c + 13) (b + 3 * k) (m - (i + 1))) f (parts k e h)
+        (r ∙ sym (verdict_cross_bins c b k at))
 
-    pub heads-on : (k : ℕ) (r : Verdict) → k ≡ byte s (c + 12) → i < m → r ≡ verdict_of (each (read_select s ps bins) (cross_bin_heads_at s c b k) at) → r.number ≡ 0
-        → x ≡ verdict_of (each (read_selects s ps bins) (cross_heads_at s (c + 13) (b + 3 * k) (m - (i + 1))) r.at)
-    heads-on k r e h f z =
-        owners_on (read_selects s ps bins) (cross_heads_at s c b (m - i)) at x inv (parts_at c b k) (cross_heads_at s (c + 13) (b + 3 * k) (m - (i + 1))) r (parts k e h)
-        (f ∙ sym (verdict_cross_bins c b k at)) z
-
-pub cross_at : (s : List ℕ) (points c n i x : ℕ) → CrossesOk s points c n → i < n → x ≡ c + 13 * i → CrossOk s points x
-cross_at s points c n i x h l e = subst (CrossOk s points) (sym e) (h i l)
+    pub heads-on : (k next : ℕ) → k ≡ byte s (c + 12) → i < m → Ok next ≡ verdict_of (each (read_select s ps bins) (cross_bin_heads_at s c b k) at)
+        → x ≡ verdict_of (each (read_selects s ps bins) (cross_heads_at s (c + 13) (b + 3 * k) (m - (i + 1))) next)
+    heads-on k next e h r =
+        owners_on (read_selects s ps bins) (cross_heads_at s c b (m - i)) at x inv (parts_at c b k) (cross_heads_at s (c + 13) (b + 3 * k) (m - (i + 1))) next (parts k e h)
+        (r ∙ sym (verdict_cross_bins c b k at))
 
 -- ---- how many tokens
 
@@ -122,11 +129,12 @@ tokens-counted s c b n m sum e f =
 
 -- ---- the section
 
-module _ (s : List ℕ) (ps : List Point) (bins : List BinHead) (c b n m at sum : ℕ) (q : Verdict) (e : m ≡ sum_from 0 cross_bins_owned (cross_head s) 13 c n) (f : sum ≡ sum_from 0 tokens_of (cross_bin_head s []) 3 b m) (g : q ≡ verdict_of (owned_count s 1024 sum at)) where
-  pub tokens_stop : (q.number ≡ 0 → ⊥) → q ≡ verdict_of (read_token_section s ps bins (cross_heads_at s c b n) at)
+module _ (s : List ℕ) (ps : List Point) (bins : List BinHead) (c b n m at sum : ℕ) (e : m ≡ sum_from 0 cross_bins_owned (cross_head s) 13 c n) (f : sum ≡ sum_from 0 tokens_of (cross_bin_head s []) 3 b m) where
+  pub tokens_stop : (g : Fault) → Err g ≡ verdict_of (owned_count s 1024 sum at) → Err g ≡ verdict_of (read_token_section s ps bins (cross_heads_at s c b n) at)
   unfolding read_token_section
-  tokens_stop z = count_stop s 1024 at sum (sum_of tokens_owned (cross_heads_at s c b n)) _ (tokens-counted s c b n m sum e f) q g z
+  tokens_stop g h = count_stop s 1024 at sum (sum_of tokens_owned (cross_heads_at s c b n)) _ (tokens-counted s c b n m sum e f) g h
 
-  pub tokens_on : (y : Verdict) → q.number ≡ 0 → y ≡ verdict_of (each (read_selects s ps bins) (cross_heads_at s c b n) q.at) → y ≡ verdict_of (read_token_section s ps bins (cross_heads_at s c b n) at)
+  pub tokens_on : (next : ℕ) (y : Verdict) → Ok next ≡ verdict_of (owned_count s 1024 sum at) → y ≡ verdict_of (each (read_selects s ps bins) (cross_heads_at s c b n) next)
+      → y ≡ verdict_of (read_token_section s ps bins (cross_heads_at s c b n) at)
   unfolding read_token_section
-  tokens_on y z h = count_on s 1024 at sum (sum_of tokens_owned (cross_heads_at s c b n)) _ (tokens-counted s c b n m sum e f) q y g z h
+  tokens_on next y g h = count_on s 1024 at sum (sum_of tokens_owned (cross_heads_at s c b n)) _ (tokens-counted s c b n m sum e f) next y g h

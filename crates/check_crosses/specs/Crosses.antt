@@ -1,17 +1,13 @@
 -- Section 8 as inner code tests it: by fields, and by counts in place of lists.
 -- Assumes nothing.
-use Rattle.std.specs.Prelude.{ℕ, ◌+◌, ◌*◌, ◌<◌, Bool, not, ◌&&◌, ◌||◌, List, [], ◌∷◌, leb, eqb}
-use Rattle.model.specs.Format.{Test, field, count, disagreement, byte, u32, guard_ok}
+use Rattle.std.specs.Prelude.{ℕ, ◌+◌, ◌*◌, ◌<◌, List, [], ◌∷◌, map, leb}
+use Rattle.model.specs.Lists.{up_from}
+use Rattle.model.specs.Format.{Test, field, count, disagreement, byte, u32, guard_ok, all_different, cross_points, cross_point_test}
 use Rattle.check_tokens.specs.Tokens.{CrossOk}
 
--- the first n of four points are different, for n from 2 to 4
-unfoldable pub pairs_differ : ℕ → ℕ → ℕ → ℕ → ℕ → Bool
-pairs_differ n a b c d =
-    not (eqb a b || ((leb 3 n && eqb a c) || (leb 4 n && eqb a d)))
-    && (not ((leb 3 n && eqb b c) || (leb 4 n && eqb b d)) && not (leb 4 n && eqb c d))
-
-unfoldable pub points_differ : List ℕ → ℕ → Bool
-points_differ s at = pairs_differ (byte s at) (byte s (at + 1)) (byte s (at + 2)) (byte s (at + 3)) (byte s (at + 4))
+-- the tests on the n points from the i-th on
+unfoldable pub point_tests : List ℕ → ℕ → ℕ → ℕ → ℕ → List Test
+point_tests s points at i n = map (cross_point_test s points at) (up_from i n)
 
 -- the tests after those on the points
 unfoldable pub cross_end : List ℕ → ℕ → List Test
@@ -19,7 +15,7 @@ cross_end s at =
     (guard_ok (byte s (at + 5)), field, at + 5)
     ∷ (leb 1 (u32 s (at + 8)), field, at + 8)
     ∷ (leb (byte s (at + 12)) 16, count, at + 12)
-    ∷ (points_differ s at, disagreement, at)
+    ∷ (all_different (cross_points s at), disagreement, at)
     ∷ []
 
 -- the n crosses from c on have two to four points each, all below `points`

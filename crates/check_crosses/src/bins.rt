@@ -1,36 +1,32 @@
 // Section 9: cross bins.
+#![tactic(auto, unfolding(words::specs::Verdicts::verdict_of, words::specs::Verdicts::verdict_in, model::specs::Format::read_record, model::specs::Format::tested, model::specs::Format::read_cross_bin))]
+
 ghost use Rattle.std.specs.Prelude.{◌≡◌, [], ◌+◌, ◌*◌, ◌≤◌, length};
-ghost use Rattle.model.specs.Format.{cross_head, cross_bins_owned, read_cross_bin, times, read_cross_bin_section};
+ghost use Rattle.model.specs.Format.{byte, cross_head, cross_bins_owned, cross_bin_head, tokens_of, read_cross_bin, times, read_cross_bin_section};
 ghost use Rattle.model.specs.Raw.{rows};
 ghost use Rattle.words.specs.Verdicts.{verdict_of};
 ghost use Rattle.words.specs.Sums.{sum_from};
 
+use layout::Section;
 use words::bytes::{byte, inside};
 use words::counts::owned_count;
 use words::guards::bin_guard_ok;
-use words::verdicts::{Verdict, fault, sound, test};
+use words::verdicts::{FaultClass, Verdict, test, whole};
 
 // The tests on a cross bin's record are those of any cross's.
 fn cross_bin(t: &[u8], at: usize) -> Verdict
     requires { (at ≤ length t.now) × (length t.now ≤ 65536) }
     ensures { result ≡ verdict_of (read_cross_bin t.now [] at) }
 {
-    let end = at + 3;
-    if t.len() < end {
-        return fault(2, at);
-    }
+    let end = whole(t, at, 3)?;
+    // The kind stays the byte, which is what is tested: above 2 it is refused.
     let kind = inside(t, at);
     let guard = inside(t, at + 1);
     let tokens = inside(t, at + 2);
-    let kinds = kind <= 2;
-    let guarded = bin_guard_ok(kind, guard);
-    let some = (1 <= tokens) & (tokens <= 32);
-    if kinds & guarded & some {
-        return sound(end);
-    }
-    let c = test(some, 3, at + 2, sound(end));
-    let b = test(guarded, 15, at + 1, c);
-    test(kinds, 15, at, b)
+    test(kind <= 2, FaultClass::Field, at)?;
+    test(bin_guard_ok(kind, guard), FaultClass::Field, at + 1)?;
+    test((1..=32).contains(&tokens), FaultClass::Count, at + 2)?;
+    Ok(end)
 }
 
 // n cross bins from start on.
@@ -39,43 +35,48 @@ fn cross_bins(t: &[u8], n: usize, start: usize) -> Verdict
     ensures { result ≡ verdict_of (times n (read_cross_bin t.now []) start) }
 {
     let mut at = start;
-    let mut i = 0;
-    while i < n {
-        let r = cross_bin(t, at);
-        if r.number != 0 {
-            return r;
-        }
-        at = r.at;
-        i += 1;
+    for i in 0..n {
+        at = cross_bin(t, at)?;
     }
-    sound(at)
+    Ok(at)
 }
 
-// The cross bins that n crosses own.
-pub fn owned_bins(t: &[u8], n: usize, base: usize) -> usize
-    requires { (base + 13 * n ≤ length t.now) × (length t.now ≤ 65536) }
-    ensures { (result ≡ sum_from 0 cross_bins_owned (cross_head t.now) 13 base n) × (result ≤ 255 * n) }
+// The sum of a byte of n records of size bytes, the first such byte at start.
+fn sum_bytes(t: &[u8], size: usize, start: usize, n: usize) -> usize
+    requires { (size ≤ 13) × (start ≤ 65548) × (n ≤ 2000000) }
+    ensures { (result ≡ sum_from 0 (λ b. b) (byte t.now) size start n) × (result ≤ 255 * n) }
 {
     let mut sum = 0;
-    let mut at = base;
-    let mut i = 0;
-    while i < n {
-        sum += byte(t, at + 12) as usize;
-        at += 13;
-        i += 1;
+    let mut at = start;
+    for i in 0..n {
+        sum += byte(t, at) as usize;
+        at += size;
     }
     sum
 }
 
-// Section 9, at at; c is the place of the first of n crosses.
-pub fn cross_bin_section(t: &[u8], c: usize, n: usize, at: usize) -> Verdict
-    requires { (at ≤ length t.now) × (length t.now ≤ 65536) × (c + 13 * n ≤ length t.now) }
-    ensures { result ≡ verdict_of (read_cross_bin_section t.now (rows (cross_head t.now) 13 c n) at) }
+// The cross bins that these crosses own.
+pub fn owned_bins(t: &[u8], crosses: Section) -> usize
+    requires { (crosses.at + 13 * crosses.count ≤ length t.now) × (length t.now ≤ 65536) }
+    ensures { (result ≡ sum_from 0 cross_bins_owned (cross_head t.now) 13 crosses.at crosses.count) × (result ≤ 255 * crosses.count) }
 {
-    let sum = owned_bins(t, n, c);
-    let r = owned_count(t, 128, sum, at);
-    if r.number != 0 {
-        return r;
-    }
-    cross_bins(t, sum, r.at)
+    sum_bytes(t, 13, crosses.at + 12, crosses.count)
+}
+
+// The tokens that these cross bins own.
+pub fn owned_tokens(t: &[u8], bins: Section) -> usize
+    requires { (bins.at ≤ 65536) × (bins.count ≤ 2000000) }
+    ensures { result ≡ sum_from 0 tokens_of (cross_bin_head t.now []) 3 bins.at bins.count }
+{
+    sum_bytes(t, 3, bins.at + 2, bins.count)
+}
+
+// Section 9, at at, after these crosses.
+pub fn cross_bin_section(t: &[u8], crosses: Section, at: usize) -> Verdict
+    requires { (at ≤ length t.now) × (length t.now ≤ 65536) × (crosses.at + 13 * crosses.count ≤ length t.now) }
+    ensures { result ≡ verdict_of (read_cross_bin_section t.now (rows (cross_head t.now) 13 crosses.at crosses.count) at) }
+{
+    let sum = owned_bins(t, crosses);
+    let start = owned_count(t, 128, sum, at)?;
+    cross_bins(t, sum, start)
 }

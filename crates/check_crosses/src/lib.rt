@@ -18,36 +18,18 @@ use layout::Section;
 use words::bytes::read2;
 use words::verdicts::Verdict;
 
-// Sections 8 to 10, from at on. points, bins: the places of the first of np points and of nb value bins.
-pub fn crosses(t: &[u8], points: usize, np: usize, bins: usize, nb: usize, at: usize) -> Verdict
-    requires at_in_bounds { (at ≤ length t.now) × (length t.now ≤ 65536) × (points + 11 * np ≤ length t.now) × (np ≤ 16) × (bins + 8 * nb ≤ length t.now) }
-    requires all_wide { AllWide t.now points np }
-    ensures { result ≡ verdict_of (read_crosses t.now (points_at t.now points np) (rows (bin_head t.now) 8 bins nb) at) }
+// Sections 8 to 10, from at on, after these points and value bins.
+// These stay two parameters: facts on them speak of t, and in a struct that borrows t each clause would read `s.entry.t.now` for `t.now`.
+pub fn crosses(t: &[u8], points: Section, bins: Section, at: usize) -> Verdict
+    requires at_in_bounds { (at ≤ length t.now) × (length t.now ≤ 65536) × (points.at + 11 * points.count ≤ length t.now) × (points.count ≤ 16) × (bins.at + 8 * bins.count ≤ length t.now) }
+    requires all_wide { AllWide t.now points.at points.count }
+    ensures { result ≡ verdict_of (read_crosses t.now (points_at t.now points.at points.count) (rows (bin_head t.now) 8 bins.at bins.count) at) }
 {
-    let a = cross_section(t, np, at);
-    if a.number != 0 {
-        return a;
-    }
-    let n = read2(t, at) as usize;
-    let c = at + 2;
-    let ninth = a.at;
-    let b = cross_bin_section(t, c, n, ninth);
-    if b.number != 0 {
-        return b;
-    }
-    token_section(
-        t,
-        Section {
-            at: points,
-            count: np,
-        },
-        Section {
-            at: bins,
-            count: nb,
-        },
-        c,
-        ninth + 2,
-        n,
-        b.at,
-    )
+    let ninth = cross_section(t, points.count, at)?;
+    let crosses = Section {
+        at: at + 2,
+        count: read2(t, at) as usize,
+    };
+    let tenth = cross_bin_section(t, crosses, ninth)?;
+    token_section(t, points, bins, crosses, ninth + 2, tenth)
 }

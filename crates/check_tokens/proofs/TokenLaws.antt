@@ -1,46 +1,39 @@
 -- Section 10: the tests of a token by its fields, and how many expressions tokens make.
 -- Assumes nothing.
 use Prim.Native.Nat.{ℕ, zero, suc, ◌+◌, ◌-◌, ◌*◌, ◌<◌, ◌≤◌}
+use Rattle.std.proofs.Common.{Result, Ok, Err}
+use Rattle.std.proofs.lemmas.List.{get_or_past}
 use mathlib.Core.Path.{◌≡◌, refl, ap, ap₂, sym, ◌∙◌, subst}
-use mathlib.Core.Bool.{Bool, true, false, not, ◌&&◌, ◌||◌, cond}
-use mathlib.Core.List.{List, [], ◌∷◌, ◌++◌, map}
+use mathlib.Core.Bool.{Bool, true, false, ◌&&◌, ◌||◌, cond}
+use mathlib.Core.List.{List, [], ◌∷◌, ◌++◌}
 use mathlib.Core.Option.{Option, none, some}
-use native.Mathlib.Nat.{sub-zero, not-suc-le-zero}
 use native.Mathlib.Omega.{arith}
 use lib.Dec.{leb, ltb, eqb, eqb-zero-suc, eqb-suc-zero, eqb-suc-suc}
 use lib.ListN.{length, get_or}
 use borrow.Author.Rules.{rules}
 use borrow.Author.Tests.{ltb-true, ltb-false, eqb-true, lt-leb, le-leb, eq-eqb}
-use Rattle.model.specs.Lists.{up_from}
 use Rattle.model.specs.Table.{Point, Select, negated, no_point, is_cover}
-use Rattle.model.specs.Format.{Test, field, unused, disagreement, byte, u16, u64, point_record, BinHead, bin_head, no_bin_head, value_tests, cross_points, cover_bin_of, token_rules, token_tests, token_record, token_from, Token, leaf, not_token, and_token, or_token, is_leaf, with_token, expressions}
+use Rattle.model.specs.Format.{Test, byte, u16, u64, point_record, BinHead, bin_head, no_bin_head, value_tests, cross_points, cover_bin_of, token_rules, token_tests, token_record, token_from, Token, leaf, not_token, and_token, or_token, is_leaf, with_token, expressions}
 use Rattle.model.specs.Raw.{rows, points_at}
 use Rattle.model.specs.Values.{field_value}
 use Rattle.model.proofs.Booleans.{false-true, or-false-right}
 use Rattle.model.proofs.RawLaws.{length-rows, get_d_rows}
-use Rattle.words.specs.Verdicts.{verdict_in, unless_ok}
-use Rattle.words.specs.declared.verdicts.Verdict.{Verdict}
+use Rattle.words.specs.Verdicts.{class_of, fault_at, verdict_in, pass}
+use Rattle.words.specs.declared.verdicts.Fault.{Fault}
 use Rattle.model.proofs.Fields.{cover-kind}
 use Rattle.model.proofs.Lists.{none_left, one_left, length-row, get_d-row}
-use Rattle.words.proofs.Laws.{passing, passed}
 use Rattle.ranges.specs.Types.{typed}
-use Rattle.check_tokens.specs.Tokens.{CrossOk, value_fields, found, wanted_after, lacks}
-use Rattle.words.proofs.Laws.{verdict_in-append, verdict_in_choice}
+use Rattle.check_tokens.specs.Tokens.{CrossOk, found, wanted_after, lacks}
+use Rattle.words.proofs.Laws.{tests, tests_stop, tests_on, verdict_in-append}
 
 -- ---- the point at a position
-
-get_d_past : (f : ℕ → ℕ) (k n i : ℕ) → n ≤ i → get_or (map f (up_from k n)) i 0 ≡ 0
-unfolding up_from
-get_d_past f k zero i h = refl
-get_d_past f k (suc n) zero h = absurd (not-suc-le-zero h)
-get_d_past f k (suc n) (suc i) h = get_d_past f (suc k) n i (omega arith)
 
 pub point_in : (s : List ℕ) (c i r : ℕ) → i < byte s c → r ≡ byte s (c + 1 + i) → r ≡ get_or (cross_points s c) i 0
 point_in s c i r h e =
     e ∙ ap (λ (j : ℕ). byte s (c + 1 + j)) (let y : i ≡ 0 + i = omega arith in y) ∙ sym (get_d-row (λ j. byte s (c + 1 + j)) 0 (byte s c) i 0 h)
 
 pub point-out : (s : List ℕ) (c i r : ℕ) → byte s c ≤ i → r ≡ 0 → r ≡ get_or (cross_points s c) i 0
-point-out s c i r h e = e ∙ sym (get_d_past (λ j. byte s (c + 1 + j)) 0 (byte s c) i h)
+point-out s c i r h e = e ∙ sym (get_or_past (cross_points s c) i 0 (rw (length-row (λ j. byte s (c + 1 + j)) 0 (byte s c)) h))
 
 -- the same, of what was read
 pub position_in : (s : List ℕ) (c i n r : ℕ) → n ≡ byte s c → i < n → r ≡ byte s (c + 1 + i) → r ≡ get_or (cross_points s c) i 0
@@ -86,63 +79,30 @@ cover-bin s bins nb p b =
 
 -- ---- a token's tests
 
-pub verdict-token_rules : (parts : ℕ) (p : Point) (op position b lo hi : ℕ) (names : Bool) (at : ℕ) (f : Verdict)
-    → verdict_in (token_rules parts p op position b lo hi names at) f
-    ≡ unless_ok (leb op 5) 15 at (cond (leb op 2)
-    (unless_ok (ltb position parts) 15 (at + 1) (unless_ok (eqb op 1 || eqb b 0) 17 (at + 2) (verdict_in (value_fields p op lo hi at) (unless_ok (not (eqb op 1) || names) 4 at f))))
-    (unless_ok (eqb position 0) 17 (at + 1) (unless_ok (eqb op 1 || eqb b 0) 17 (at + 2) (verdict_in (value_fields p op lo hi at) (unless_ok (not (eqb op 1) || names) 4 at f)))))
-unfolding token_rules verdict_in value_fields
-verdict-token_rules parts p op position b lo hi names at f =
-    ap (unless_ok (leb op 5) 15 at)
-    (verdict_in_choice (leb op 2) (ltb position parts, field, at + 1) (eqb position 0, unused, at + 1) ((eqb op 1 || eqb b 0, unused, at + 2) ∷ (value_fields p op lo hi at ++ named)) f
-    ∙ ap (λ (x : Verdict). cond (leb op 2) (unless_ok (ltb position parts) 15 (at + 1) (unless_ok (eqb op 1 || eqb b 0) 17 (at + 2) x)) (unless_ok (eqb position 0) 17 (at + 1) (unless_ok (eqb op 1 || eqb b 0) 17 (at + 2) x)))
-    (verdict_in-append (value_fields p op lo hi at) named f))
-  where
-    named : List Test
-    named = (not (eqb op 1) || names, disagreement, at) ∷ []
+-- one of them made in another function, and several, with others after them
+module _ {A : Type 0} (rest : Result A Fault) (others : List Test) where
+  pub one_stop : (x : Test) (f : Fault) → Err f ≡ verdict_in (x ∷ []) pass → Err f ≡ verdict_in (x ∷ others) rest
+  unfolding verdict_in
+  one_stop (true, class, at) f h = absurd (cc)
+  one_stop (false, class, at) f h = ap (λ (q : Fault). Err q) (let y : f ≡ fault_at (class_of class) at = cc in y)
 
--- where those on op, position and bin pass, the others are left
-pub token-passed : (parts : ℕ) (p : Point) (op position b lo hi : ℕ) (names : Bool) (at : ℕ) (f r : Verdict) (ok : Bool)
-    → r ≡ verdict_in (value_fields p op lo hi at) (unless_ok (not (eqb op 1) || names) 4 at f) → ok ≡ true
-    → ok ≡ ((leb op 5 && cond (leb op 2) (ltb position parts) (eqb position 0)) && (eqb op 1 || eqb b 0)) → r ≡ verdict_in (token_rules parts p op position b lo hi names at) f
-unfolding verdict_in passing
-token-passed parts p op position b lo hi names at f r ok e t h =
-    e ∙ go (leb op 2) (sym h ∙ t) ∙ sym (verdict-token_rules parts p op position b lo hi names at f)
-  where
-    rest : Verdict
-    rest = verdict_in (value_fields p op lo hi at) (unless_ok (not (eqb op 1) || names) 4 at f)
+  pub one_on : (x : Test) (r : Result A Fault) → pass ≡ verdict_in (x ∷ []) pass → r ≡ verdict_in others rest → r ≡ verdict_in (x ∷ others) rest
+  unfolding verdict_in
+  one_on (true, class, at) r h e = e
+  one_on (false, class, at) r h e = absurd (cc)
 
-    plain : Bool
-    plain = eqb op 1 || eqb b 0
+  pub some_stop : (xs : List Test) (f : Fault) → Err f ≡ verdict_in xs pass → Err f ≡ verdict_in (xs ++ others) rest
+  some_stop xs f h = tests_stop xs (verdict_in others rest) f h ∙ sym (verdict_in-append xs others rest)
 
-    go : (leaf : Bool) → ((leb op 5 && cond leaf (ltb position parts) (eqb position 0)) && plain) ≡ true
-        → rest ≡ unless_ok (leb op 5) 15 at (cond leaf (unless_ok (ltb position parts) 15 (at + 1) (unless_ok plain 17 (at + 2) rest)) (unless_ok (eqb position 0) 17 (at + 1) (unless_ok plain 17 (at + 2) rest)))
-    go true e = passed ((leb op 5, field, at) ∷ (ltb position parts, field, at + 1) ∷ (plain, unused, at + 2) ∷ []) rest rest _ refl e refl
-    go false e = passed ((leb op 5, field, at) ∷ (eqb position 0, unused, at + 1) ∷ (plain, unused, at + 2) ∷ []) rest rest _ refl e refl
+  pub some_on : (xs : List Test) (r : Result A Fault) → pass ≡ verdict_in xs pass → r ≡ verdict_in others rest → r ≡ verdict_in (xs ++ others) rest
+  some_on xs r h e = tests_on xs (verdict_in others rest) r h e ∙ sym (verdict_in-append xs others rest)
+
+pub ruleset token-tests = (tests, one_stop, one_on, some_stop, some_on)
 
 -- a point's type is its width and its sign
 pub values-typed : (p : Point) (a b at : ℕ) → value_tests p a b at ≡ value_tests (typed p.width p.signed) a b at
 unfolding value_tests
 values-typed p a b at = refl
-
--- whether it names a cover bin counts only where it names a bin
-pub token-named : (parts : ℕ) (p : Point) (op position b lo hi : ℕ) (names : Bool) (at : ℕ)
-    → token_rules parts p op position b lo hi (not (eqb op 1) || names) at ≡ token_rules parts p op position b lo hi names at
-unfolding token_rules
-token-named parts p op position b lo hi names at = go (eqb op 1)
-  where
-    tests : Bool → List Test
-    tests x =
-        (leb op 5, field, at)
-        ∷ cond (leb op 2) (ltb position parts, field, at + 1) (eqb position 0, unused, at + 1)
-        ∷ (eqb op 1 || eqb b 0, unused, at + 2)
-        ∷ cond (eqb op 2) (value_tests p lo hi (at + 4)) ((eqb lo 0, unused, at + 4) ∷ (eqb hi 0, unused, at + 12) ∷ [])
-        ++ (x, disagreement, at)
-        ∷ []
-
-    go : (one : Bool) → tests (not one || (not one || names)) ≡ tests (not one || names)
-    go true = refl
-    go false = refl
 
 -- the tests of the token at `at` of the cross at c, by its fields
 pub token_tests_lem : (s : List ℕ) (points np bins nb c at : ℕ) → CrossOk s np c
@@ -270,9 +230,6 @@ module _ (s : List ℕ) where
   first_at at zero = tt
   first_at at (suc n) = first_of (byte s at) _ _ _ _ (expressions (rows (token_record s) 20 (at + 20) n))
 
-  pub wants_start : (n at : ℕ) → left 1 at n ≡ left 1 at (n - 0)
-  wants_start n at = rw sub-zero
-
   module _ (m i at w : ℕ) (x : Bool) (inv : x ≡ left w at (m - i)) where
     pub wants-done : (r : Bool) → m ≤ i → r ≡ eqb w 0 → r ≡ x
     unfolding rows expressions found
@@ -327,9 +284,4 @@ wanted-small op w r e = go (leb op 2) (leb op 3) e
     go false true e = omega arith
     go false false e = omega arith
 
-pub lacks-some : (l : Bool) (op next w : ℕ) → l ≡ lacks op next w → l ≡ false → 1 ≤ w
-unfolding lacks
-lacks-some l op next zero e f = absurd (false-true (sym (sym e ∙ f)))
-lacks-some l op next (suc w) e f = omega arith
-
-pub ruleset wants = (rules, wants_start, wants-done, wants-stop, wants-on, lacks-some)
+pub ruleset wants = (rules, wants-done, wants-stop, wants-on)

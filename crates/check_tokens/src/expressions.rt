@@ -1,4 +1,6 @@
 // Section 10: whether select tokens are one expression.
+#![tactic(auto, unfolding(crate::specs::Tokens::lacks, crate::specs::Tokens::wanted_after))]
+
 ghost use Rattle.std.specs.Prelude.{◌≡◌, ◌≤◌};
 ghost use Rattle.model.specs.Format.{token_record, expressions};
 ghost use Rattle.model.specs.Raw.{rows};
@@ -34,8 +36,7 @@ pub fn one_expression(t: &[u8], n: usize, start: usize) -> bool
 {
     let mut at = start;
     let mut wanted = 1;
-    let mut i = 0;
-    while i < n {
+    for i in 0..n {
         let op = byte(t, at);
         let next = byte(t, at + 20);
         if lacks(op, next, wanted) {
@@ -43,7 +44,6 @@ pub fn one_expression(t: &[u8], n: usize, start: usize) -> bool
         }
         wanted = wanted_after(op, wanted);
         at += 20;
-        i += 1;
     }
     wanted == 0
 }

@@ -1,15 +1,18 @@
 // Section 10: the records of select tokens.
-ghost use Rattle.std.specs.Prelude.{◌≡◌, not, ◌||◌, ◌+◌, ◌*◌, ◌≤◌, eqb, length, get_or};
-ghost use Rattle.model.specs.Format.{point_record, bin_head, cross_points, cover_bin_of, token_rules, read_token, times};
+#![tactic(auto, unfolding(words::specs::Verdicts::verdict_of, words::specs::Verdicts::verdict_in, model::specs::Format::read_record, model::specs::Format::tested, model::specs::Format::token_rules, model::specs::Format::read_token, crate::specs::Tokens::value_fields))]
+
+ghost use Rattle.std.specs.Prelude.{◌≡◌, [], ◌∷◌, Ok, cond, ◌+◌, ◌*◌, ◌≤◌, leb, ltb, eqb, length, get_or};
+ghost use Rattle.model.specs.Format.{point_record, bin_head, cross_points, cover_bin_of, field, unused, token_rules, read_token, times};
 ghost use Rattle.model.specs.Raw.{rows, points_at};
-ghost use Rattle.words.specs.Verdicts.{verdict, verdict_of, verdict_in};
+ghost use Rattle.words.specs.Verdicts.{verdict_of, verdict_in};
 ghost use Rattle.ranges.specs.Types.{Wide, AllWide};
 ghost use Rattle.check_tokens.specs.Tokens.{CrossOk, token_at, value_fields};
 
 use layout::Section;
-use ranges::value_tests;
+use ranges::{type_at, value_tests};
 use words::bytes::{byte, inside, whole2, whole8};
-use words::verdicts::{Verdict, choose, fault, pick, sound, test};
+use words::kinds::Kind;
+use words::verdicts::{Fault, FaultClass, Verdict, test, whole};
 
 // The point at a position of the cross at c; 0 past its points.
 fn point_of(t: &[u8], c: usize, position: u8) -> usize
@@ -22,18 +25,18 @@ fn point_of(t: &[u8], c: usize, position: u8) -> usize
     if position < n { p } else { 0 }
 }
 
-// Whether value bin b of nb is a cover bin of point p.
-fn cover_bin(t: &[u8], bins: usize, nb: usize, p: usize, b: usize) -> bool
-    requires { (bins ≤ 65536) × (b ≤ 65536) }
-    ensures { result ≡ cover_bin_of (rows (bin_head t.now) 8 bins nb) p b }
+// Whether a table with this section of value bins has a b-th of them, and it is a cover bin of point p.
+fn cover_bin(t: &[u8], bins: Section, p: usize, b: usize) -> bool
+    requires { (bins.at ≤ 65536) × (b ≤ 65536) }
+    ensures { result ≡ cover_bin_of (rows (bin_head t.now) 8 bins.at bins.count) p b }
 {
-    let at = bins + 8 * b;
+    let at = bins.at + 8 * b;
     let point = byte(t, at) as usize;
-    let kind = byte(t, at + 1);
-    (b < nb) & (kind == 0) & (point == p)
+    let kind = Kind::from(byte(t, at + 1));
+    (b < bins.count) & (kind == Kind::Cover) & (point == p)
 }
 
-// The fields of a token.
+// The fields of a token. op stays the table's byte: `op <= 2` says leaf in less than a match, and any byte may stand there.
 #[derive(Clone, Copy)]
 struct Token {
     op: u8,
@@ -56,62 +59,49 @@ fn token_at(t: &[u8], at: usize) -> Token
     }
 }
 
-// Whether a token, if it names a bin, names a cover bin of point p.
-fn named(t: &[u8], bins: usize, nb: usize, p: usize, token: Token) -> bool
-    requires { bins ≤ 65536 }
-    ensures { result ≡ (not (eqb token.op 1) || cover_bin_of (rows (bin_head t.now) 8 bins nb) p token.bin) }
+// The position: one of the cross's where op is 0, 1 or 2, else unused.
+fn position_field(parts: u8, token: Token, at: usize) -> Result<(), Fault>
+    requires { at ≤ 65536 }
+    ensures { result ≡ verdict_in (cond (leb token.op 2) (ltb token.position parts, field, at + 1) (eqb token.position 0, unused, at + 1) ∷ []) (Ok tt) }
 {
-    let op = token.op;
-    let b = token.bin as usize;
-    if op == 1 {
-        return cover_bin(t, bins, nb, p, b);
+    if token.op <= 2 {
+        return test(token.position < parts, FaultClass::Field, at + 1);
     }
-    true
+    test(token.position == 0, FaultClass::Unused, at + 1)
 }
 
-// lo and hi: values of the point whose record is at point where op is 2, else unused; then what rest says.
-fn value_fields(t: &[u8], point: usize, token: Token, at: usize, rest: Verdict) -> Verdict
+// lo and hi: values of the point whose record is at point where op is 2, else unused.
+fn value_fields(t: &[u8], point: usize, token: Token, at: usize) -> Result<(), Fault>
     requires { (point ≤ 65536) × (at ≤ 65536) × Wide t.now point }
-    ensures { result ≡ verdict_in (value_fields (point_record t.now point) token.op token.lo token.hi at) rest }
+    ensures { result ≡ verdict_in (value_fields (point_record t.now point) token.op token.lo token.hi at) (Ok tt) }
 {
-    let op = token.op;
-    let lo = token.lo;
-    let hi = token.hi;
-    if op == 2 {
-        let width = byte(t, point);
-        let signed = byte(t, point + 1);
-        return value_tests(width, signed == 1, lo, hi, at + 4, rest);
+    if token.op == 2 {
+        return value_tests(type_at(t, point), token.lo, token.hi, at + 4);
     }
-    let no_lo = lo == 0;
-    let no_hi = hi == 0;
-    if no_lo & no_hi {
-        return rest;
-    }
-    let h = test(no_hi, 17, at + 12, rest);
-    test(no_lo, 17, at + 4, h)
+    test(token.lo == 0, FaultClass::Unused, at + 4)?;
+    test(token.hi == 0, FaultClass::Unused, at + 12)
 }
 
-// The tests on a token at at, of a cross with so many points; the record of the point at its position is at point.
-fn token_rules(t: &[u8], parts: u8, point: usize, token: Token, names: bool, at: usize) -> Verdict
-    requires { (point ≤ 65536) × (at ≤ 65536) × Wide t.now point }
-    ensures { result ≡ verdict_in (token_rules parts (point_record t.now point) token.op token.position token.bin token.lo token.hi names at) (verdict 0 (at + 20)) }
+// The tests on a token at at, of a cross with so many points. p is the point at its position, whose record is at point.
+fn token_rules(
+    t: &[u8],
+    bins: Section,
+    parts: u8,
+    p: usize,
+    point: usize,
+    token: Token,
+    at: usize,
+) -> Result<(), Fault>
+    requires { (bins.at ≤ 65536) × (point ≤ 65536) × (at ≤ 65536) × Wide t.now point }
+    ensures { result ≡ verdict_in (token_rules parts (point_record t.now point) token.op token.position token.bin token.lo token.hi (cover_bin_of (rows (bin_head t.now) 8 bins.at bins.count) p token.bin) at) (Ok tt) }
 {
-    let op = token.op;
-    let position = token.position;
-    let known = op <= 5;
-    let used = position < parts;
-    let free = position == 0;
-    let placed = pick(op <= 2, used, free);
-    let plain = (op == 1) | (token.bin == 0);
-    let last = test(!(op == 1) | names, 4, at, sound(at + 20));
-    let values = value_fields(t, point, token, at, last);
-    if known & placed & plain {
-        return values;
-    }
-    let bin = test(plain, 17, at + 2, values);
-    let a = test(used, 15, at + 1, bin);
-    let b = test(free, 17, at + 1, bin);
-    test(known, 15, at, choose(op <= 2, a, b))
+    let plain = (token.op == 1) | (token.bin == 0);
+    test(token.op <= 5, FaultClass::Field, at)?;
+    position_field(parts, token, at)?;
+    test(plain, FaultClass::Unused, at + 2)?;
+    value_fields(t, point, token, at)?;
+    let named = (token.op != 1) || cover_bin(t, bins, p, token.bin as usize);
+    test(named, FaultClass::Disagreement, at)
 }
 
 // The token at at, of the cross at c, in a table with these sections of points and of value bins.
@@ -120,14 +110,12 @@ fn token_fault(t: &[u8], points: Section, bins: Section, c: usize, at: usize) ->
     requires all_wide { AllWide t.now points.at points.count × CrossOk t.now points.count c }
     ensures { result ≡ verdict_of (read_token t.now (points_at t.now points.at points.count) (rows (bin_head t.now) 8 bins.at bins.count) (cross_points t.now c) at) }
 {
-    if t.len() < at + 20 {
-        return fault(2, at);
-    }
+    let end = whole(t, at, 20)?;
     let parts = byte(t, c);
     let token = token_at(t, at);
     let p = point_of(t, c, token.position);
-    let names = named(t, bins.at, bins.count, p, token);
-    token_rules(t, parts, points.at + 11 * p, token, names, at)
+    token_rules(t, bins, parts, p, points.at + 11 * p, token, at)?;
+    Ok(end)
 }
 
 // n such tokens from start on.
@@ -137,14 +125,8 @@ pub fn tokens(t: &[u8], points: Section, bins: Section, c: usize, n: usize, star
     ensures { result ≡ verdict_of (times n (read_token t.now (points_at t.now points.at points.count) (rows (bin_head t.now) 8 bins.at bins.count) (cross_points t.now c)) start) }
 {
     let mut at = start;
-    let mut i = 0;
-    while i < n {
-        let r = token_fault(t, points, bins, c, at);
-        if r.number != 0 {
-            return r;
-        }
-        at = r.at;
-        i += 1;
+    for i in 0..n {
+        at = token_fault(t, points, bins, c, at)?;
     }
-    sound(at)
+    Ok(at)
 }

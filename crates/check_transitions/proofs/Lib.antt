@@ -1,4 +1,3 @@
-pub mod SumLaws
 pub mod SequenceLaws
 pub mod StepLaws
 pub mod StepRangeLaws

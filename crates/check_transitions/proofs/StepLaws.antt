@@ -13,43 +13,42 @@ use Rattle.model.specs.Format.{disagreement, got, tested, times, each, byte, own
 use Rattle.model.specs.Raw.{rows, lengths_at, step_heads_at, length_heads_at}
 use Rattle.model.proofs.RawLaws.{rows-add}
 use Rattle.model.proofs.RawTransitions.{steps_says}
-use Rattle.words.specs.Verdicts.{verdict, verdict_of, verdict_in, unless_ok}
-use Rattle.words.specs.declared.verdicts.Verdict.{Verdict}
+use Rattle.std.proofs.Common.{Ok, Err}
+use Rattle.words.specs.Verdicts.{Verdict, verdict_of, verdict_in}
+use Rattle.words.specs.declared.verdicts.Fault.{Fault}
 use Rattle.words.proofs.Laws.{verdict-tested, record_in, each_start, each-done}
 use Rattle.words.proofs.Chain.{bind_stop, bind_done, rows_on}
-use Rattle.check_transitions.specs.Sums.{byte_sum}
+use Rattle.words.specs.Sums.{byte_sum}
 use Rattle.words.proofs.Chain.{count_stop, count_on, says_in}
 use Rattle.words.proofs.Flat.{each_each, owner_stop, owner_on}
-use Rattle.check_transitions.proofs.SumLaws.{byte-field, byte_field₀, bytes-add}
+use Rattle.words.proofs.ByteSums.{byte-field, byte_field₀, bytes-add}
 
 -- ---- the steps of one sequence
 
 module _ (s : List ℕ) (n at : ℕ) where
-  pub steps_stop : (r : Verdict) → r ≡ verdict_of (times n (read_step s) at) → (r.number ≡ 0 → ⊥) → r ≡ verdict_of (read_steps s n at)
+  pub steps_stop : (f : Fault) → Err f ≡ verdict_of (times n (read_step s) at) → Err f ≡ verdict_of (read_steps s n at)
   unfolding read_steps
-  steps_stop r e z = bind_stop (times n (read_step s)) _ at r e z
+  steps_stop f e = bind_stop (times n (read_step s)) _ at f e
 
-  pub steps_on : (q y : Verdict) (leasts mosts : ℕ) → q ≡ verdict_of (times n (read_step s) at) → q.number ≡ 0
+  pub steps_on : (end : ℕ) (y : Verdict) (leasts mosts : ℕ) → Ok end ≡ verdict_of (times n (read_step s) at)
       → leasts ≡ byte_sum s 3 (at + 1) n → mosts ≡ byte_sum s 3 (at + 2) n
-      → y ≡ unless_ok (leb 2 leasts && leb mosts 32) 4 (q.at - 3) (verdict 0 q.at) → y ≡ verdict_of (read_steps s n at)
+      → y ≡ verdict_in ((leb 2 leasts && leb mosts 32, disagreement, end - 3) ∷ []) (Ok end) → y ≡ verdict_of (read_steps s n at)
   unfolding read_steps read_step
-  steps_on q y leasts mosts e z l m h =
+  steps_on end y leasts mosts e l m h =
       let ss = step_heads_at s at n in
-      rows_on s 3 (step_tests s) (step_head s) _ n at q y e z
+      rows_on s 3 (step_tests s) (step_head s) _ n at end y e
       (h
-      ∙ ap₂ (λ (l m : ℕ). unless_ok (leb 2 l && leb m 32) 4 (q.at - 3) (verdict 0 q.at))
+      ∙ ap₂ (λ (l m : ℕ). verdict_in ((leb 2 l && leb m 32, disagreement, end - 3) ∷ []) (Ok end))
       (l ∙ byte-field s (λ st. st.least) (step_head s) 3 1 (λ p. refl) at n) (m ∙ byte-field s (λ st. st.most) (step_head s) 3 2 (λ p. refl) at n)
       ∙ sym (tested-last ss))
     where
       tested-last : (ss : List StepHead)
-          → verdict_of (tested ((sums_ok ss, disagreement, q.at - 3) ∷ []) (got ss q.at))
-          ≡ unless_ok (leb 2 (sum_of (λ st. st.least) ss) && leb (sum_of (λ st. st.most) ss) 32) 4 (q.at - 3) (verdict 0 q.at)
-      tested-last ss = unfold verdict_of verdict_in in (verdict-tested ((sums_ok ss, disagreement, q.at - 3) ∷ []) (got ss q.at))
+          → verdict_of (tested ((sums_ok ss, disagreement, end - 3) ∷ []) (got ss end))
+          ≡ verdict_in ((sums_ok ss, disagreement, end - 3) ∷ []) (Ok end)
+      tested-last ss = unfold verdict_of in (verdict-tested ((sums_ok ss, disagreement, end - 3) ∷ []) (got ss end))
 
-  pub steps_in : (r : Verdict) → at ≤ length s → r ≡ verdict_of (read_steps s n at) → r.number ≡ 0 → r.at ≤ length s
-  steps_in r h e z = says_in _ _ _ _ r (steps_says s n at h) e z
-
-pub ruleset sequence_steps = (rules, record_in, steps_stop, steps_on)
+  pub steps_in : (end : ℕ) → at ≤ length s → Ok end ≡ verdict_of (read_steps s n at) → end ≤ length s
+  steps_in end h e = says_in _ _ _ _ end (steps_says s n at h) e
 
 pub ruleset steps_each = (rules, steps_in, each_start, each-done, owner_stop, owner_on)
 
@@ -87,15 +86,15 @@ module _ (s : List ℕ) (b q n at sequences sum : ℕ) (many : sequences ≡ byt
   total_is : sum ≡ sum_of steps_owned (length_heads_at s b q n)
   total_is = own ∙ ap (byte_sum s 1 q) many ∙ step_total_lem s n b q
 
-  pub section_stop : (r : Verdict) → r ≡ verdict_of (owned_count s 256 sum at) → (r.number ≡ 0 → ⊥) → r ≡ verdict_of (read_step_section s (length_heads_at s b q n) at)
+  pub section_stop : (f : Fault) → Err f ≡ verdict_of (owned_count s 256 sum at) → Err f ≡ verdict_of (read_step_section s (length_heads_at s b q n) at)
   unfolding read_step_section
-  section_stop r e z = count_stop s 256 at sum _ _ total_is r e z
+  section_stop f e = count_stop s 256 at sum _ _ total_is f e
 
-  pub section_on : (c y : Verdict) → c ≡ verdict_of (owned_count s 256 sum at) → c.number ≡ 0 → y ≡ verdict_of (each (read_steps s) (lengths_at s q sequences) c.at)
+  pub section_on : (next : ℕ) (y : Verdict) → Ok next ≡ verdict_of (owned_count s 256 sum at) → y ≡ verdict_of (each (read_steps s) (lengths_at s q sequences) next)
       → y ≡ verdict_of (read_step_section s (length_heads_at s b q n) at)
   unfolding read_step_section
-  section_on c y e z h =
-      count_on s 256 at sum _ _ total_is c y e z
-      (h ∙ ap (λ (l : List ℕ). verdict_of (each (read_steps s) l c.at)) (ap (lengths_at s q) many ∙ sym (lengths_flat s n b q)) ∙ sym (steps_flat s (length_heads_at s b q n) c.at))
+  section_on next y e h =
+      count_on s 256 at sum _ _ total_is next y e
+      (h ∙ ap (λ (l : List ℕ). verdict_of (each (read_steps s) l next)) (ap (lengths_at s q) many ∙ sym (lengths_flat s n b q)) ∙ sym (steps_flat s (length_heads_at s b q n) next))
 
 pub ruleset step_section = (rules, record_in, section_stop, section_on)

@@ -15,16 +15,17 @@ use Rattle.model.specs.Raw.{points_at, step_total, range_total, sequence_heads_a
 use Rattle.model.proofs.RawLaws.{get_d_rows}
 use Rattle.model.proofs.RawTransitions.{bin-range-total}
 use Rattle.model.proofs.Lists.{none_left, one_left}
-use Rattle.words.specs.Verdicts.{verdict, verdict_of}
-use Rattle.words.specs.declared.verdicts.Verdict.{Verdict}
+use Rattle.std.proofs.Common.{Ok, Err}
+use Rattle.words.specs.Verdicts.{Verdict, verdict_of}
+use Rattle.words.specs.declared.verdicts.Fault.{Fault}
 use Rattle.words.proofs.Laws.{record_in, owners_done, owners_stop, owners_on}
 use Rattle.words.proofs.Chain.{bind_done, times_in}
 use Rattle.ranges.specs.Types.{Wide, AllWide}
-use Rattle.check_transitions.specs.Sums.{byte_sum}
+use Rattle.words.specs.Sums.{byte_sum}
 use Rattle.words.proofs.Chain.{count_stop, count_on}
 use Rattle.words.proofs.Flat.{each_times}
 use Rattle.words.specs.Points.{PointsBelow}
-use Rattle.check_transitions.proofs.SumLaws.{byte_field₀, bytes-add}
+use Rattle.words.proofs.ByteSums.{byte_field₀, bytes-add}
 
 -- ---- points
 
@@ -100,29 +101,30 @@ module _ (s : List ℕ) (ps : List Point) where
   bins_start n b q p at = rw sub-zero
 
   module _ (n i b q p at : ℕ) (x : Verdict) (inv : x ≡ verdict_of (each (read_transition_ranges s ps) (transition_heads_at s b q p (n - i)) at)) where
-    pub bins_done : (r : Verdict) → n ≤ i → r ≡ verdict 0 at → r ≡ x
+    pub bins_done : n ≤ i → Ok at ≡ x
     unfolding transition_heads_at
-    bins_done r h e = owners_done (read_transition_ranges s ps) _ at x inv r (ap (transition_heads_at s b q p) (none_left n i h)) e
+    bins_done h = owners_done (read_transition_ranges s ps) _ at x inv (ap (transition_heads_at s b q p) (none_left n i h))
 
-    module _ (m k : ℕ) (r : Verdict) (h : i < n) (em : m ≡ byte s (b + 3)) (ek : k ≡ byte_sum s 1 q m)
-        (e : r ≡ verdict_of (times (byte_sum s 3 p k) (read_range s (get_or ps (byte s b) no_point) true) at)) where
-      first-is : r ≡ verdict_of (read_transition_ranges s ps (with_owned (transition_head s b) (sequence_heads_at s q p (byte s (b + 3)))) at)
-      first-is = e ∙ bin-row s ps b q p (byte s (b + 3)) k at (ek ∙ ap (byte_sum s 1 q) em)
+    module _ (m k : ℕ) (h : i < n) (em : m ≡ byte s (b + 3)) (ek : k ≡ byte_sum s 1 q m) where
+      first-is : (r : Verdict) → r ≡ verdict_of (times (byte_sum s 3 p k) (read_range s (get_or ps (byte s b) no_point) true) at)
+          → r ≡ verdict_of (read_transition_ranges s ps (with_owned (transition_head s b) (sequence_heads_at s q p (byte s (b + 3)))) at)
+      first-is r e = e ∙ bin-row s ps b q p (byte s (b + 3)) k at (ek ∙ ap (byte_sum s 1 q) em)
 
-      pub bins-stop : (r.number ≡ 0 → ⊥) → r ≡ x
+      pub bins-stop : (f : Fault) → Err f ≡ verdict_of (times (byte_sum s 3 p k) (read_range s (get_or ps (byte s b) no_point) true) at) → Err f ≡ x
       unfolding transition_heads_at
-      bins-stop z = owners_stop (read_transition_ranges s ps) _ at x inv _ _ r (ap (transition_heads_at s b q p) (one_left n i h)) first-is z
+      bins-stop f e = owners_stop (read_transition_ranges s ps) _ at x inv _ _ f (ap (transition_heads_at s b q p) (one_left n i h)) (first-is (Err f) e)
 
-      pub bins_on : r.number ≡ 0 → x ≡ verdict_of (each (read_transition_ranges s ps) (transition_heads_at s (b + 4) (q + m) (p + 3 * k) (n - (i + 1))) r.at)
+      pub bins_on : (next : ℕ) → Ok next ≡ verdict_of (times (byte_sum s 3 p k) (read_range s (get_or ps (byte s b) no_point) true) at)
+          → x ≡ verdict_of (each (read_transition_ranges s ps) (transition_heads_at s (b + 4) (q + m) (p + 3 * k) (n - (i + 1))) next)
       unfolding transition_heads_at
-      bins_on z =
-          owners_on (read_transition_ranges s ps) _ at x inv _ _ r (ap (transition_heads_at s b q p) (one_left n i h)) first-is z
-          ∙ ap₂ (λ (m k : ℕ). verdict_of (each (read_transition_ranges s ps) (transition_heads_at s (b + 4) (q + m) (p + 3 * k) (n - (i + 1))) r.at)) (sym em)
+      bins_on next e =
+          owners_on (read_transition_ranges s ps) _ at x inv _ _ next (ap (transition_heads_at s b q p) (one_left n i h)) (first-is (Ok next) e)
+          ∙ ap₂ (λ (m k : ℕ). verdict_of (each (read_transition_ranges s ps) (transition_heads_at s (b + 4) (q + m) (p + 3 * k) (n - (i + 1))) next)) (sym em)
           (steps_are s q (byte s (b + 3)) ∙ sym (ek ∙ ap (byte_sum s 1 q) em))
 
-pub ranges_in : (s : List ℕ) (pt : Point) (n at : ℕ) (r : Verdict) → at ≤ length s → r ≡ verdict_of (times n (read_range s pt true) at) → r.number ≡ 0 → r.at ≤ length s
+pub ranges_in : (s : List ℕ) (pt : Point) (n at end : ℕ) → at ≤ length s → Ok end ≡ verdict_of (times n (read_range s pt true) at) → end ≤ length s
 unfolding read_range
-ranges_in s pt n at r h e z = times_in s 17 (range_tests s pt true) (range_record s) n at r h e z
+ranges_in s pt n at end h e = times_in s 17 (range_tests s pt true) (range_record s) n at end h e
 
 pub ruleset ranges_each = (rules, point_below_lem, ranges_in, bins_start, bins_done, bins-stop, bins_on)
 
@@ -133,13 +135,13 @@ module _ (s : List ℕ) (ps : List Point) (b q p n at sequences steps sum : ℕ)
   total_is : sum ≡ sum_of step_ranges_owned (transition_heads_at s b q p n)
   total_is = own ∙ ap (byte_sum s 3 p) (more ∙ ap (byte_sum s 1 q) many) ∙ range-total s n b q p
 
-  pub section_stop : (r : Verdict) → r ≡ verdict_of (owned_count s 512 sum at) → (r.number ≡ 0 → ⊥) → r ≡ verdict_of (read_step_range_section s ps (transition_heads_at s b q p n) at)
+  pub section_stop : (f : Fault) → Err f ≡ verdict_of (owned_count s 512 sum at) → Err f ≡ verdict_of (read_step_range_section s ps (transition_heads_at s b q p n) at)
   unfolding read_step_range_section
-  section_stop r e z = count_stop s 512 at sum _ _ total_is r e z
+  section_stop f e = count_stop s 512 at sum _ _ total_is f e
 
-  pub section_on : (c y : Verdict) → c ≡ verdict_of (owned_count s 512 sum at) → c.number ≡ 0 → y ≡ verdict_of (each (read_transition_ranges s ps) (transition_heads_at s b q p n) c.at)
+  pub section_on : (next : ℕ) (y : Verdict) → Ok next ≡ verdict_of (owned_count s 512 sum at) → y ≡ verdict_of (each (read_transition_ranges s ps) (transition_heads_at s b q p n) next)
       → y ≡ verdict_of (read_step_range_section s ps (transition_heads_at s b q p n) at)
   unfolding read_step_range_section
-  section_on c y e z h = count_on s 512 at sum _ _ total_is c y e z h
+  section_on next y e h = count_on s 512 at sum _ _ total_is next y e h
 
 pub ruleset step_range_section = (rules, record_in, section_stop, section_on)

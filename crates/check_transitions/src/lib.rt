@@ -4,7 +4,6 @@
 pub mod sequences;
 pub mod step_ranges;
 pub mod steps;
-pub mod sums;
 pub mod transitions;
 
 ghost use Rattle.std.specs.Prelude.{◌≡◌, ◌+◌, ◌*◌, ◌≤◌, length};
@@ -21,38 +20,18 @@ use layout::Section;
 use words::bytes::read2;
 use words::verdicts::Verdict;
 
-// The four sections; the count of the first is at at, and the np points' records begin at points.
-pub fn transition_bins(t: &[u8], points: usize, np: usize, at: usize) -> Verdict
-    requires { (at ≤ length t.now) × (length t.now ≤ 65536) × (points + 11 * np ≤ length t.now) × (np ≤ 16) × AllWide t.now points np }
-    ensures { result ≡ verdict_of (read_transition_bins t.now (points_at t.now points np) at) }
+// The four sections, in a table with these points; the count of the first is at at.
+pub fn transition_bins(t: &[u8], points: Section, at: usize) -> Verdict
+    requires { (at ≤ length t.now) × (length t.now ≤ 65536) × (points.at + 11 * points.count ≤ length t.now) × (points.count ≤ 16) × AllWide t.now points.at points.count }
+    ensures { result ≡ verdict_of (read_transition_bins t.now (points_at t.now points.at points.count) at) }
 {
-    let bins = transition_section(t, np, at);
-    if bins.number != 0 {
-        return bins;
-    }
-    let n = read2(t, at) as usize;
-    let b = at + 2;
-    let fifth = bins.at;
-    let sequences = sequence_section(t, b, n, fifth);
-    if sequences.number != 0 {
-        return sequences;
-    }
+    let fifth = transition_section(t, points.count, at)?;
+    let bins = Section {
+        at: at + 2,
+        count: read2(t, at) as usize,
+    };
     let q = fifth + 2;
-    let sixth = sequences.at;
-    let steps = step_section(t, b, q, n, sixth);
-    if steps.number != 0 {
-        return steps;
-    }
-    step_range_section(
-        t,
-        Section {
-            at: points,
-            count: np,
-        },
-        b,
-        q,
-        sixth + 2,
-        n,
-        steps.at,
-    )
+    let sixth = sequence_section(t, bins, fifth)?;
+    let seventh = step_section(t, bins, q, sixth)?;
+    step_range_section(t, points, bins, q, sixth + 2, seventh)
 }

@@ -1,54 +1,26 @@
 // Section 4: transition bins.
-ghost use Rattle.std.specs.Prelude.{◌≡◌, ◌≤◌, length};
-ghost use Rattle.model.specs.Format.{read_transition, read_transition_section, times};
-ghost use Rattle.words.specs.Verdicts.{verdict_of};
+ghost use Rattle.std.specs.Prelude.{◌≡◌, ◌+◌, ◌≤◌, length, Ok};
+ghost use Rattle.model.specs.Format.{transition_tests, read_transition_section};
+ghost use Rattle.words.specs.Verdicts.{verdict_of, verdict_in};
 
 use words::bytes::{inside, read2};
 use words::counts::section_count;
 use words::guards::bin_guard_ok;
-use words::verdicts::{Verdict, fault, sound, test};
+use words::records::records;
+use words::verdicts::{Fault, FaultClass, Verdict, test};
 
-fn transition_fault(t: &[u8], points: usize, at: usize) -> Verdict
-    requires { (at ≤ length t.now) × (length t.now ≤ 65536) }
-    ensures { result ≡ verdict_of (read_transition t.now points at) }
+// The tests of the transition bin at at, which is whole.
+fn transition_tests(t: &[u8], points: usize, at: usize) -> Result<(), Fault>
+    requires { (at + 4 ≤ length t.now) × (length t.now ≤ 65536) }
+    ensures { result ≡ verdict_in (transition_tests t.now points at) (Ok tt) }
 {
-    let end = at + 4;
-    if t.len() < end {
-        return fault(2, at);
-    }
-    let point = inside(t, at) as usize;
+    // The kind stays the byte, which is what is tested: above 2 it is refused.
     let kind = inside(t, at + 1);
-    let guard = inside(t, at + 2);
-    let sequences = inside(t, at + 3);
-    let known = point < points;
-    let kinds = kind <= 2;
-    let guarded = bin_guard_ok(kind, guard);
-    let some = 1 <= sequences;
-    if known & kinds & guarded & some {
-        return sound(end);
-    }
-    let d = test(some, 3, at + 3, sound(end));
-    let c = test(guarded, 15, at + 2, d);
-    let b = test(kinds, 15, at + 1, c);
-    test(known, 15, at, b)
-}
-
-// n transition bins from start on.
-fn transitions_of(t: &[u8], points: usize, n: usize, start: usize) -> Verdict
-    requires { (start ≤ length t.now) × (length t.now ≤ 65536) }
-    ensures { result ≡ verdict_of (times n (read_transition t.now points) start) }
-{
-    let mut at = start;
-    let mut i = 0;
-    while i < n {
-        let r = transition_fault(t, points, at);
-        if r.number != 0 {
-            return r;
-        }
-        at = r.at;
-        i += 1;
-    }
-    sound(at)
+    let guarded = bin_guard_ok(kind, inside(t, at + 2));
+    test((inside(t, at) as usize) < points, FaultClass::Field, at)?;
+    test(kind <= 2, FaultClass::Field, at + 1)?;
+    test(guarded, FaultClass::Field, at + 2)?;
+    test(1 <= inside(t, at + 3), FaultClass::Count, at + 3)
 }
 
 // The section whose count is at at; points says how many points there are.
@@ -56,10 +28,7 @@ pub fn transition_section(t: &[u8], points: usize, at: usize) -> Verdict
     requires { (at ≤ length t.now) × (length t.now ≤ 65536) }
     ensures { result ≡ verdict_of (read_transition_section t.now points at) }
 {
-    let c = section_count(t, 0, 64, at);
-    if c.number != 0 {
-        return c;
-    }
+    let start = section_count(t, 0, 64, at)?;
     let n = read2(t, at) as usize;
-    transitions_of(t, points, n, c.at)
+    records(t, 4, n, start, |place| transition_tests(t, points, place))
 }

@@ -1,37 +1,35 @@
 -- Value bins: the readers with what they read forgotten, and the search for a default, in the form in which `search` applies the laws.
 -- Assumes nothing.
-use Prim.Native.Nat.{ℕ, zero, suc, ◌+◌, ◌*◌, ◌-◌, ◌<◌, ◌≤◌}
+use Prim.Native.Nat.{ℕ, suc, ◌+◌, ◌*◌, ◌-◌, ◌<◌, ◌≤◌}
 use mathlib.Core.Path.{◌≡◌, refl, ap, ap₂, sym, ◌∙◌}
-use mathlib.Core.Bool.{Bool, true, false, not, ◌&&◌, ◌||◌, cond, and-true}
+use mathlib.Core.Bool.{Bool, true, false, ◌&&◌, ◌||◌, cond}
 use mathlib.Core.List.{List, [], ◌∷◌}
 use native.Mathlib.Omega.{arith}
 use native.Mathlib.Numerals.{add-one}
 use lib.Dec.{eqb}
 use lib.ListN.{length}
 use borrow.Author.Rules.{rules}
-use borrow.Author.Tests.{le-leb, lt-leb, ne_eqb}
 use Rattle.model.specs.Lists.{any}
 use Rattle.model.specs.Table.{is_default}
-use Rattle.model.specs.Format.{Read, got, and_then, byte, BinHead, bin_head, bin_tests, defaults_with, first_default, read_bin_heads}
-use Rattle.words.specs.Verdicts.{verdict, verdict_of}
-use Rattle.words.specs.declared.verdicts.Verdict.{Verdict}
-use Rattle.words.proofs.Laws.{verdict_stop, verdict-done, record-got, sound_record, number_of}
-use Rattle.model.proofs.Booleans.{false-true}
+use Rattle.model.specs.Format.{Read, got, and_then, byte, BinHead, bin_head, bin_tests, defaults_with, read_bin_heads}
+use Rattle.std.proofs.Common.{Ok, Err}
+use Rattle.words.specs.Verdicts.{Verdict, verdict_of}
+use Rattle.words.specs.declared.verdicts.Fault.{Fault}
+use Rattle.words.proofs.Laws.{verdict_stop, verdict-done, record-got, sound_record}
 use Rattle.model.proofs.Fields.{default-kind}
 use Rattle.model.proofs.Lists.{none_left, one_left}
-use Rattle.check_values.specs.Places.{defaults_up_to, fields_at, read_bin, is_default_of}
-use Rattle.check_values.specs.declared.bins.Bin.{Bin}
+use Rattle.check_values.specs.Places.{defaults_up_to, read_bin, is_default_of}
 
-pub heads_step : (s : List ℕ) (points base i n : ℕ) → (verdict_of (read_bin s points base i (base + 8 * i))).number ≡ 0
+heads_step : (s : List ℕ) (points base i n end : ℕ) → Ok end ≡ verdict_of (read_bin s points base i (base + 8 * i))
     → read_bin_heads s points (suc n) (defaults_up_to s base i) (base + 8 * i)
     ≡ and_then (read_bin_heads s points n (defaults_up_to s base (i + 1)) (base + 8 * (i + 1))) (λ hs end. got (bin_head s (base + 8 * i) ∷ hs) end)
 unfolding read_bin_heads read_bin defaults_up_to
-heads_step s points base i n z =
+heads_step s points base i n end e =
     let at = base + 8 * i in
     let d = defaults_up_to s base i in
     let y : at + 8 ≡ base + 8 * (i + 1) = omega arith in
     ap (λ (m : Read BinHead). and_then m (λ h next. and_then (read_bin_heads s points n (defaults_with h d) next) λ hs end. got (h ∷ hs) end))
-    (record-got s 8 (bin_tests s points d) (bin_head s) at z)
+    (record-got s 8 (bin_tests s points d) (bin_head s) at end e)
     ∙ ap (λ (k : ℕ). and_then (read_bin_heads s points n (defaults_with (bin_head s at) d) k) (λ hs end. got (bin_head s at ∷ hs) end)) y
     ∙ ap (λ (k : ℕ). and_then (read_bin_heads s points n (defaults_up_to s base k) (base + 8 * (i + 1))) (λ hs end. got (bin_head s at ∷ hs) end)) (sym (add-one i))
 
@@ -41,26 +39,26 @@ module _ (s : List ℕ) (points base : ℕ) where
   heads_start m = ap₂ (λ (k at : ℕ). verdict_of (read_bin_heads s points k [] at)) (let y : m ≡ m - 0 = omega arith in y) (let y : base ≡ base + 8 * 0 = omega arith in y)
 
   module _ (m i : ℕ) (x : Verdict) (inv : x ≡ verdict_of (read_bin_heads s points (m - i) (defaults_up_to s base i) (base + 8 * i))) where
-    pub heads_done : (r : Verdict) → i ≤ m → m ≤ i → r ≡ verdict 0 (base + 8 * m) → r ≡ x
+    pub heads_done : i ≤ m → m ≤ i → Ok (base + 8 * m) ≡ x
     unfolding read_bin_heads verdict_of
-    heads_done r l h e = e ∙ ap (verdict 0) (let y : base + 8 * m ≡ base + 8 * i = omega arith in y) ∙ sym (rw (none_left m i h) at inv)
+    heads_done l h = ap (λ (at : ℕ). Ok at) (let y : base + 8 * m ≡ base + 8 * i = omega arith in y) ∙ sym (rw (none_left m i h) at inv)
 
-    pub heads-stop : (r : Verdict) → i < m → r ≡ verdict_of (read_bin s points base i (base + 8 * i)) → (r.number ≡ 0 → ⊥) → r ≡ x
+    pub heads-stop : (f : Fault) → i < m → Err f ≡ verdict_of (read_bin s points base i (base + 8 * i)) → Err f ≡ x
     unfolding read_bin_heads read_bin
-    heads-stop r h e z =
-        verdict_stop (read_bin s points base i (base + 8 * i)) (λ h next. and_then (read_bin_heads s points (m - (i + 1)) (defaults_with h (defaults_up_to s base i)) next) λ hs end. got (h ∷ hs) end) r e z
+    heads-stop f h e =
+        verdict_stop (read_bin s points base i (base + 8 * i)) (λ h next. and_then (read_bin_heads s points (m - (i + 1)) (defaults_with h (defaults_up_to s base i)) next) λ hs end. got (h ∷ hs) end) f e
         ∙ sym (rw (one_left m i h) at inv)
 
-    pub heads-on : (r : Verdict) → i < m → r ≡ verdict_of (read_bin s points base i (base + 8 * i)) → r.number ≡ 0
+    pub heads-on : (end : ℕ) → i < m → Ok end ≡ verdict_of (read_bin s points base i (base + 8 * i))
         → x ≡ verdict_of (read_bin_heads s points (m - (i + 1)) (defaults_up_to s base (i + 1)) (base + 8 * (i + 1)))
-    heads-on r h e z =
+    heads-on end h e =
         (rw (one_left m i h) at inv)
-        ∙ ap verdict_of (heads_step s points base i (m - (i + 1)) (number_of (read_bin s points base i (base + 8 * i)) r e z))
+        ∙ ap verdict_of (heads_step s points base i (m - (i + 1)) end e)
         ∙ verdict-done (read_bin_heads s points (m - (i + 1)) (defaults_up_to s base (i + 1)) (base + 8 * (i + 1))) (λ hs. bin_head s (base + 8 * i) ∷ hs)
 
-  pub bin_in : (i : ℕ) (r : Verdict) → r ≡ verdict_of (read_bin s points base i (base + 8 * i)) → r.number ≡ 0 → base + 8 * (i + 1) ≤ length s
+  pub bin_in : (i end : ℕ) → Ok end ≡ verdict_of (read_bin s points base i (base + 8 * i)) → base + 8 * (i + 1) ≤ length s
   unfolding read_bin
-  bin_in i r e z = omega (arith, (sound_record s 8 (bin_tests s points (defaults_up_to s base i)) (bin_head s) (base + 8 * i) r e z).0)
+  bin_in i end e = omega (arith, (sound_record s 8 (bin_tests s points (defaults_up_to s base i)) (bin_head s) (base + 8 * i) end e).0)
 
 pub ruleset headss = (rules, bin_in, heads_start, heads_done, heads-stop, heads-on)
 
@@ -90,38 +88,3 @@ module _ (s : List ℕ) (base p k : ℕ) (x : Bool) (inv : x ≡ any (eqb p) (de
   defs_on r h e z = simp (sym e ∙ z) at (defs_step h)
 
 pub ruleset defss = (rules, defs_none, defs_found, defs_on)
-
--- whether a bin is the first default of its point
-module _ (s : List ℕ) (base i k : ℕ) (kind : k ≡ byte s (base + 8 * i + 1)) where
-  pub first_some : (p : ℕ) (b : Bool) → 3 ≤ k → p ≡ byte s (base + 8 * i) → b ≡ any (eqb p) (defaults_up_to s base i)
-      → not b ≡ first_default (bin_head s (base + 8 * i)) (defaults_up_to s base i)
-  first_some p b h e a = rw (default-kind (byte s (base + 8 * i + 1)), ← kind, le-leb 3 k h, ← e) (ap not a)
-
-  pub first_none : k < 3 → true ≡ first_default (bin_head s (base + 8 * i)) (defaults_up_to s base i)
-  first_none h = rw (default-kind (byte s (base + 8 * i + 1)), ← kind, lt-leb 3 k h)
-
-pub ruleset first_defaults = (rules, first_some, first_none)
-
--- ---- a bin's tests
-
--- the two tests on its number, as one
-pub number_tests : (b dealt some none : Bool) → (b && cond dealt some none) ≡ ((b && (not dealt || some)) && (dealt || none))
-number_tests true true some none = sym (and-true some)
-number_tests true false some none = refl
-number_tests false dealt some none = refl
-
-plain-kind : (kind : ℕ) → (eqb kind 0 || eqb kind 2) ≡ true → kind < 3
-plain-kind zero e = omega arith
-plain-kind (suc zero) e = omega arith
-plain-kind (suc (suc zero)) e = omega arith
-plain-kind (suc (suc (suc kind))) e =
-    let k = suc (suc (suc kind)) in
-    let a : eqb k 0 ≡ false = ne_eqb k 0 (λ q. omega (arith, q)) in
-    let b : eqb k 2 ≡ false = ne_eqb k 2 (λ q. omega (arith, q)) in
-    absurd (false-true (sym (ap₂ ◌||◌ a b) ∙ e))
-
--- a cover or an illegal bin is no default
-pub first_plain : (s : List ℕ) (base i : ℕ) {bin : Bin} → bin ≡ fields_at s (base + 8 * i) → (eqb bin.kind 0 || eqb bin.kind 2) ≡ true
-    → first_default (bin_head s (base + 8 * i)) (defaults_up_to s base i) ≡ true
-first_plain s base i {bin} e h =
-    sym (first_none s base i bin.kind (ap (λ (b : Bin). b.kind) e) (plain-kind bin.kind h))

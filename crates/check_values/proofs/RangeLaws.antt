@@ -11,8 +11,8 @@ use Rattle.model.specs.Table.{Point, no_point}
 use Rattle.model.specs.Format.{byte, u16, point_record, bin_head, ◌>>=◌, times, range_tests, range_record, read_range, BinHead, read_bin_ranges, allows_patterns, with_ranges}
 use Rattle.model.specs.Raw.{points_at}
 use Rattle.model.proofs.RawLaws.{get_d_rows}
-use Rattle.words.specs.Verdicts.{verdict, verdict_of}
-use Rattle.words.specs.declared.verdicts.Verdict.{Verdict}
+use Rattle.std.proofs.Common.{Ok}
+use Rattle.words.specs.Verdicts.{Verdict, verdict_of}
 use Rattle.words.proofs.Laws.{verdict-done, eachs}
 use Rattle.words.proofs.Chain.{times_in}
 use Rattle.words.specs.Points.{PointsBelow}
@@ -37,7 +37,7 @@ verdict-bin-at s points np bin at h =
 
 -- ranges that are spans of the point have no fault
 pub spans-at : (s : List ℕ) (points np bin at p n : ℕ) (b : Bool) (r : Verdict) → byte s bin < np → p ≡ byte s bin → n ≡ u16 s (bin + 6) → b ≡ sound_spans s (points + 11 * p) n at → b ≡ true
-    → r ≡ verdict 0 (at + 17 * n) → r ≡ verdict_of (read_bin_ranges s (points_at s points np) (bin_head s bin) at)
+    → r ≡ Ok (at + 17 * n) → r ≡ verdict_of (read_bin_ranges s (points_at s points np) (bin_head s bin) at)
 spans-at s points np bin at p n b r k ep en eb z e =
     let patterns = eqb (byte s (bin + 1)) 0 && eqb (byte s (bin + 2)) 0 in
     sound-read s (points + 11 * p) n at patterns r (sym eb ∙ z) e
@@ -51,10 +51,10 @@ module _ (s : List ℕ) (points np bins n : ℕ) (wide : AllWide s points np) (k
   pub typed_at : points + 11 * np ≤ length s → Typed s points np bin
   typed_at l = let k : byte s bin < np = known_at in record { known = k; place = omega arith; wide = wide (byte s bin) k }
 
-  pub ranges_in : (at : ℕ) (r : Verdict) → at ≤ length s → r ≡ verdict_of (read_bin_ranges s (points_at s points np) (bin_head s bin) at) → r.number ≡ 0 → r.at ≤ length s
+  pub ranges_in : (at end : ℕ) → at ≤ length s → Ok end ≡ verdict_of (read_bin_ranges s (points_at s points np) (bin_head s bin) at) → end ≤ length s
   unfolding read_range
-  ranges_in at r l q z =
-      times_in s 17 (range_tests s (point_record s (points + 11 * byte s bin)) (eqb (byte s (bin + 1)) 0 && eqb (byte s (bin + 2)) 0)) (range_record s) (u16 s (bin + 6)) at r l
-      (q ∙ verdict-bin-at s points np bin at known_at) z
+  ranges_in at end l q =
+      times_in s 17 (range_tests s (point_record s (points + 11 * byte s bin)) (eqb (byte s (bin + 1)) 0 && eqb (byte s (bin + 2)) 0)) (range_record s) (u16 s (bin + 6)) at end l
+      (q ∙ verdict-bin-at s points np bin at known_at)
 
 pub ruleset owned_ranges = (eachs, typed_at, ranges_in)

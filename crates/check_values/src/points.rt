@@ -1,56 +1,26 @@
 // Section 1: points.
-ghost use Rattle.std.specs.Prelude.{◌≡◌, ◌≤◌, length};
-ghost use Rattle.model.specs.Format.{read_point, times, read_point_section};
-ghost use Rattle.words.specs.Verdicts.{verdict_of};
+ghost use Rattle.std.specs.Prelude.{◌≡◌, ◌+◌, ◌≤◌, length, Ok};
+ghost use Rattle.model.specs.Format.{point_tests, read_point_section};
+ghost use Rattle.words.specs.Verdicts.{verdict_of, verdict_in};
 
 use words::bytes::{inside, read2, read4, whole2};
 use words::counts::section_count;
 use words::guards::guard_ok;
-use words::verdicts::{Verdict, fault, sound, test};
+use words::records::records;
+use words::verdicts::{Fault, FaultClass, Verdict, test};
 
-fn point_fault(t: &[u8], at: usize) -> Verdict
-    requires { (at ≤ length t.now) × (length t.now ≤ 65536) }
-    ensures { result ≡ verdict_of (read_point t.now at) }
+// The tests of the point at at, which is whole.
+fn point_tests(t: &[u8], at: usize) -> Result<(), Fault>
+    requires { (at + 11 ≤ length t.now) × (length t.now ≤ 65536) }
+    ensures { result ≡ verdict_in (point_tests t.now at) (Ok tt) }
 {
-    let end = at + 11;
-    if t.len() < end {
-        return fault(2, at);
-    }
     let width = inside(t, at);
-    let sign = inside(t, at + 1);
-    let guarded = guard_ok(inside(t, at + 2));
-    let least = read4(t, at + 5);
+    test((1 <= width) & (width <= 32), FaultClass::Field, at)?;
+    test(inside(t, at + 1) <= 1, FaultClass::Field, at + 1)?;
+    test(guard_ok(inside(t, at + 2)), FaultClass::Field, at + 2)?;
+    test(1 <= read4(t, at + 5), FaultClass::Field, at + 5)?;
     let most = whole2(t, at + 9);
-    let wide = (1 <= width) & (width <= 32);
-    let signed = sign <= 1;
-    let reached = 1 <= least;
-    let automatic = (1 <= most) & (most <= 256);
-    if wide & signed & guarded & reached & automatic {
-        return sound(end);
-    }
-    let e = test(automatic, 15, at + 9, sound(end));
-    let d = test(reached, 15, at + 5, e);
-    let c = test(guarded, 15, at + 2, d);
-    let b = test(signed, 15, at + 1, c);
-    test(wide, 15, at, b)
-}
-
-// n points from start on.
-fn points_fault(t: &[u8], n: usize, start: usize) -> Verdict
-    requires { (start ≤ length t.now) × (length t.now ≤ 65536) }
-    ensures { result ≡ verdict_of (times n (read_point t.now) start) }
-{
-    let mut at = start;
-    let mut i = 0;
-    while i < n {
-        let r = point_fault(t, at);
-        if r.number != 0 {
-            return r;
-        }
-        at = r.at;
-        i += 1;
-    }
-    sound(at)
+    test((1 <= most) & (most <= 256), FaultClass::Field, at + 9)
 }
 
 // The section whose count stands at at.
@@ -58,10 +28,7 @@ pub fn point_section(t: &[u8], at: usize) -> Verdict
     requires { (at ≤ length t.now) × (length t.now ≤ 65536) }
     ensures { result ≡ verdict_of (read_point_section t.now at) }
 {
-    let c = section_count(t, 1, 16, at);
-    if c.number != 0 {
-        return c;
-    }
+    let start = section_count(t, 1, 16, at)?;
     let n = read2(t, at) as usize;
-    points_fault(t, n, c.at)
+    records(t, 11, n, start, |place| point_tests(t, place))
 }

@@ -6,7 +6,7 @@ use mathlib.Core.List.{List, ◌∷◌, map}
 use Prim.Native.Nat.{ℕ, zero, suc, ◌+◌, ◌≤◌, ◌<◌}
 use native.Mathlib.Omega.{arith}
 use lib.ListN.{length, take, drop, get_or, length-map}
-use lib.Seq.{get_or-take}
+use lib.Seq.{length-take-le}
 use borrow.Author.Tests.{leb-true}
 use Rattle.model.specs.Lists.{up_from}
 use Rattle.model.specs.Table.{Table}
@@ -17,15 +17,16 @@ use Rattle.model.specs.Register.{counter_total, counts_of, words_needed, long_en
 use Rattle.model.specs.Lists.{as_bit}
 use Rattle.model.proofs.Group.{covered_le}
 use Rattle.model.proofs.MeasureBounds.{words_few}
+use Rattle.model.proofs.Lists.{length_part}
 use Rattle.model.proofs.Readers.{All, all-at}
 use Rattle.model.proofs.Sections.{acceptance, accepted_decodes}
 use Rattle.arrays.specs.Put.{put}
 use Rattle.arrays.specs.Flat.{total_flags, items_of}
 use Rattle.figures.specs.Figures.{item, items_from, group_case, figure_case}
 use Rattle.figures.specs.declared.Figure.{Figure}
-use Rattle.figures.specs.declared.GroupFigure.{GroupFigure}
-use Rattle.tallies.specs.declared.Tallies.{Tallies}
-use Rattle.tallies.specs.Tallies.{item_total, item_covered, Tallied, ItemNumbers}
+use Rattle.std.specs.Prelude as std
+use Rattle.tallies.specs.declared.ItemTally.{ItemTally}
+use Rattle.tallies.specs.Tallies.{item_total, item_covered, no_tally, Tallied, ItemNumbers}
 use Rattle.coverage.specs.Items.{leasts_of, item_with, mean_of, Within}
 use Rattle.coverage.specs.Answers.{item_answer, group_answer, TalliesOf}
 use Rattle.arrays.proofs.PutLaws.{front_kept}
@@ -52,6 +53,9 @@ module _ (b : List ℕ) (ok : accepted b ≡ true) (w : List ℕ) (long : long_e
   unfolding words_needed
   counters_there = omega (arith, leb-true (words_needed (table_of b)) (length w) long)
 
+  pub counts-long : length (take k (drop 2 w)) ≡ k
+  counts-long = length_part w 2 k counters_there
+
   counts : take k (drop 2 w) ≡ counts_of (table_of b) w
   unfolding counts_of
   counts = ap (λ (n : ℕ). take n (drop 2 w)) ek
@@ -64,17 +68,21 @@ module _ (b : List ℕ) (ok : accepted b ≡ true) (w : List ℕ) (long : long_e
     flags_front : (take k fs ≡ total_flags (table_of b) (counters (table_of b))) × (k ≤ length fs)
     flags_front = front_kept k (total_flags (table_of b) (counters (table_of b))) fs₀ fs (totals-length (table_of b) ∙ sym ek) ef kf
 
-    pub items_room : k ≤ length xs
+    items_room : k ≤ length xs
     items_room = items-front.1
 
-    pub flags_room : k ≤ length fs
+    pub items-long : length (take k xs) ≡ k
+    items-long = length-take-le k xs items_room
+
+    flags_room : k ≤ length fs
     flags_room = flags_front.1
 
-    pub numbers-there : ItemNumbers k xs
+    pub flags-long : length (take k fs) ≡ k
+    flags-long = length-take-le k fs flags_room
+
+    pub numbers-there : ItemNumbers (take k xs)
     unfolding ItemNumbers
-    numbers-there i h =
-        subst (λ (x : ℕ). x < 24) (get_or-take k xs i 0 h)
-        (all-at (λ x. x < 24) 0 (omega arith) (take k xs) (subst (All (λ x. x < 24)) (sym items-front.0) (items-below b ok)) i)
+    numbers-there i h = all-at (λ x. x < 24) 0 (omega arith) (take k xs) (subst (All (λ x. x < 24)) (sym items-front.0) (items-below b ok)) i
 
     total-now : (j : ℕ) → item_total j (take k xs) (take k fs) ≡ total (table_of b) j (counters (table_of b))
     total-now j = ap₂ (item_total j) items-front.0 flags_front.0 ∙ total_exact (table_of b) j (counters (table_of b))
@@ -85,31 +93,30 @@ module _ (b : List ℕ) (ok : accepted b ≡ true) (w : List ℕ) (long : long_e
         ∙ ap₂ (λ (n : ℕ) (ns : List ℕ). item_covered j n (items_of (table_of b) (counters (table_of b))) (total_flags (table_of b) (counters (table_of b))) ns) e counts
         ∙ covered-exact (table_of b) j (counters (table_of b)) (counts_of (table_of b) w)
 
-    pub tallies-whole : (ls₀ ls : List ℕ) (r : Tallies) → ls ≡ put 0 (leasts_of (table_of b)) ls₀
+    pub tallies-whole : (ls₀ ls : List ℕ) (r : List ItemTally) → ls ≡ put 0 (leasts_of (table_of b)) ls₀
         → Tallied (take k xs) (take k fs) (take k (drop 2 w)) ls r → TalliesOf (table_of b) w r
     tallies-whole ls₀ ls r e y = record {
-      totals_sized = y.totals_sized;
-      covered_sized = y.covered_sized;
+      sized = y.sized;
       totals_are = λ j h. y.totals j (omega (arith, items_few b ok)) ∙ total-now j;
       covered_are = λ j h. y.covered j (omega (arith, items_few b ok)) ∙ covered-now j (get_or ls j 0) (least-there (table_of b) ls₀ ls e j h);
     }
 
 -- ---- figures
 
-module _ (t : Table) (w : List ℕ) (y : Tallies) (h : TalliesOf t w y) where
-  pub figure_exact : (i : ℕ) → i < item_count t → (r : Figure) → r ≡ figure_case (figure_of (get_or y.covered i 0) (get_or y.totals i 0)) → r ≡ item_answer t w i
+module _ (t : Table) (w : List ℕ) (y : List ItemTally) (h : TalliesOf t w y) where
+  pub figure_exact : (i : ℕ) → i < item_count t → (r : Figure) → r ≡ figure_case (figure_of (get_or y i no_tally).covered (get_or y i no_tally).total) → r ≡ item_answer t w i
   unfolding item_figure
   figure_exact i l r e = e ∙ ap₂ (λ (c n : ℕ). figure_case (figure_of c n)) (h.covered_are i l) (h.totals_are i l)
 
-  pub tallies_within : Within (item_count t) y.totals y.covered
+  pub tallies_within : Within (item_count t) y
   unfolding Within
   tallies_within j l = omega (arith, h.totals_are j l, h.covered_are j l, covered_le t j (counters t) (counts_of t w))
 
-  same_items : (i n : ℕ) → i + n ≤ item_count t → map (item_with t y.totals y.covered) (up_from i n) ≡ map (item_at t (counters t) (counts_of t w)) (up_from i n)
+  same_items : (i n : ℕ) → i + n ≤ item_count t → map (item_with t y) (up_from i n) ≡ map (item_at t (counters t) (counts_of t w)) (up_from i n)
   unfolding up_from
   same_items i zero l = refl
   same_items i (suc n) l = ap₂ ◌∷◌ (ap₂ (item (weight t i)) (h.totals_are i (omega arith)) (h.covered_are i (omega arith))) (same_items (suc i) n (omega arith))
 
-  pub group_exact : (r : GroupFigure) → r ≡ mean_of t y.totals y.covered → r ≡ group_answer t w
+  pub group_exact : (r : std.Option ℕ) → r ≡ mean_of t y → r ≡ group_answer t w
   unfolding mean_of items_from group_figure
   group_exact r e = e ∙ ap (λ (is : List Item). group_case (group_of is)) (same_items 0 (item_count t) (omega arith))

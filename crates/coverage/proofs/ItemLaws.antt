@@ -1,8 +1,8 @@
 -- Weights and at-leasts of an accepted table's items, and loops over the items.
 -- Assumes nothing.
-use mathlib.Core.Path.{◌≡◌, refl, ap, ap₂, sym, ◌∙◌, fun_ext}
+use mathlib.Core.Path.{◌≡◌, refl, ap, sym, ◌∙◌}
 use mathlib.Core.Bool.{Bool, true, false, cond}
-use mathlib.Core.List.{List, map}
+use mathlib.Core.List.{List}
 use Prim.Native.Nat.{ℕ, ◌+◌, ◌-◌, ◌*◌, ◌≤◌, ◌<◌, zero, suc}
 use native.Mathlib.Omega.{arith}
 use lib.Dec.{ltb}
@@ -10,7 +10,7 @@ use lib.ListN.{length, get_or, get_or-append, length-map, get_or-eq_default}
 use borrow.Author.Tests.{ltb-true, ltb-false}
 use Rattle.model.specs.Lists.{up_from}
 use Rattle.model.specs.Table.{Point, Cross, Table, no_point, no_cross}
-use Rattle.model.specs.Figures.{item_count, at_least, weight, group_of}
+use Rattle.model.specs.Figures.{item_count, at_least, weight}
 use Rattle.model.specs.Format.{u16, u32, point_record, accepted, table_of}
 use Rattle.model.specs.Raw.{record_count, records_place, points_at, crosses_at, raw_table}
 use Rattle.model.proofs.RawLaws.{length-rows, get_d_rows}
@@ -19,8 +19,8 @@ use Rattle.model.proofs.Lists.{length-up_from, get_d-row}
 use Rattle.model.proofs.RawCrosses.{length-crosses}
 use Rattle.arrays.specs.Put.{put}
 use Rattle.arrays.proofs.PutLaws.{put-zero}
-use Rattle.figures.specs.Figures.{item, items_from, group_case}
-use Rattle.coverage.specs.Items.{least_at, weight_at, leasts_at, leasts_of, mean_from, mean_of}
+use Rattle.coverage.specs.Items.{RecordsOf, least_at, weight_at, leasts_of}
+use Rattle.coverage.specs.declared.records.ItemRecords.{ItemRecords}
 
 -- ---- records
 
@@ -79,27 +79,29 @@ module _ (s : List ℕ) (ok : accepted s ≡ true) where
   pub items_few : item_count (table_of s) ≤ 24
   items_few = omega (arith, few_points s ok, few_crosses s ok)
 
-  pub least_exact : (i : ℕ) → least_at s (records_place s 0) (record_count s 0) (records_place s 7) (record_count s 7) i ≡ at_least (table_of s) i
+  least_exact : (i : ℕ) → least_at s (records_place s 0) (record_count s 0) (records_place s 7) (record_count s 7) i ≡ at_least (table_of s) i
   unfolding raw_table
   least_exact i =
       least-raw s (records_place s 0) (record_count s 0) (records_place s 7) (records_place s 8) (records_place s 9) (record_count s 7) i ∙ ap (λ (t : Table). at_least t i) (sym (accepted_raw s ok))
 
-  pub weight_exact : (i : ℕ) → weight_at s (records_place s 0) (record_count s 0) (records_place s 7) (record_count s 7) i ≡ weight (table_of s) i
+  weight_exact : (i : ℕ) → weight_at s (records_place s 0) (record_count s 0) (records_place s 7) (record_count s 7) i ≡ weight (table_of s) i
   unfolding raw_table
   weight_exact i =
       weight-raw s (records_place s 0) (record_count s 0) (records_place s 7) (records_place s 8) (records_place s 9) (record_count s 7) i ∙ ap (λ (t : Table). weight t i) (sym (accepted_raw s ok))
 
-  pub counted : record_count s 0 + record_count s 7 ≡ item_count (table_of s)
+  counted : record_count s 0 + record_count s 7 ≡ item_count (table_of s)
   counted = omega (arith, many_points s ok, many_crosses s ok)
 
-  pub leasts_exact : leasts_at s (records_place s 0) (record_count s 0) (records_place s 7) (record_count s 7) ≡ leasts_of (table_of s)
-  unfolding leasts_at leasts_of
-  leasts_exact = ap₂ (λ (f : ℕ → ℕ) (n : ℕ). map f (up_from 0 n)) (fun_ext least_exact) counted
+  -- the same by the records of the table
+  module _ (r : ItemRecords) (own : RecordsOf s r) where
+    pub least-own : (i : ℕ) → least_at s r.points r.point_count r.crosses r.cross_count i ≡ at_least (table_of s) i
+    least-own i = rw (own.points, own.point_count, own.crosses, own.cross_count) (least_exact i)
 
-  pub mean_exact : (totals covered : List ℕ) → mean_from s (records_place s 0) (record_count s 0) (records_place s 7) (record_count s 7) totals covered ≡ mean_of (table_of s) totals covered
-  unfolding mean_from mean_of
-  mean_exact totals covered =
-      ap₂ (λ (f : ℕ → ℕ) (n : ℕ). group_case (group_of (items_from (λ i. item (f i) (get_or totals i 0) (get_or covered i 0)) 0 n))) (fun_ext weight_exact) counted
+    pub weight-own : (i : ℕ) → weight_at s r.points r.point_count r.crosses r.cross_count i ≡ weight (table_of s) i
+    weight-own i = rw (own.points, own.point_count, own.crosses, own.cross_count) (weight_exact i)
+
+    pub own-count : r.point_count + r.cross_count ≡ item_count (table_of s)
+    own-count = rw (own.point_count, own.cross_count) counted
 
 -- the at-least stands at the item's number
 pub least-there : (t : Table) (l l' : List ℕ) → l' ≡ put 0 (leasts_of t) l → (j : ℕ) → j < item_count t → get_or l' j 0 ≡ at_least t j

@@ -7,18 +7,18 @@ use Rattle.model.specs.Figures.{total, covered, item_count, item_figure, group_f
 use Rattle.model.specs.Register.{counts_of}
 use Rattle.figures.specs.Figures.{figure_case, group_case}
 use Rattle.figures.specs.declared.Figure.{Figure}
-use Rattle.figures.specs.declared.GroupFigure.{GroupFigure}
-use Rattle.tallies.specs.declared.Tallies.{Tallies}
+use Rattle.std.specs.Prelude as std
+use Rattle.tallies.specs.Tallies.{no_tally}
+use Rattle.tallies.specs.declared.ItemTally.{ItemTally}
 
 abbrev pub item_answer : Table → List ℕ → ℕ → Figure
 item_answer t w i = figure_case (item_figure t (counters t) (counts_of t w) i)
 
-abbrev pub group_answer : Table → List ℕ → GroupFigure
+abbrev pub group_answer : Table → List ℕ → std.Option ℕ
 group_answer t w = group_case (group_figure t (counters t) (counts_of t w))
 
 -- the tallies of all items in the register w
-pub record TalliesOf (t : Table) (w : List ℕ) (r : Tallies) : Type 0 where
-  pub totals_sized : length r.totals ≡ 24
-  pub covered_sized : length r.covered ≡ 24
-  pub totals_are : (j : ℕ) → j < item_count t → get_or r.totals j 0 ≡ total t j (counters t)
-  pub covered_are : (j : ℕ) → j < item_count t → get_or r.covered j 0 ≡ covered t j (counters t) (counts_of t w)
+pub record TalliesOf (t : Table) (w : List ℕ) (r : List ItemTally) : Type 0 where
+  pub sized : length r ≡ 24
+  pub totals_are : (j : ℕ) → j < item_count t → (get_or r j no_tally).total ≡ total t j (counters t)
+  pub covered_are : (j : ℕ) → j < item_count t → (get_or r j no_tally).covered ≡ covered t j (counters t) (counts_of t w)

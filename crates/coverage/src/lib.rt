@@ -3,3 +3,4 @@
 
 pub mod figure;
 pub mod items;
+pub mod records;

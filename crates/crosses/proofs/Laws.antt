@@ -10,6 +10,7 @@ use lib.Bits.{bit_or}
 use lib.Pow.{pow_mono}
 use lib.ListN.{length, get_or, take, drop, set, replicate, length-append, length-take, drop_of_length-le}
 use lib.Seq.{length-take-le}
+use Rattle.std.proofs.lemmas.Nat.{or_comm}
 use Rattle.model.specs.Lists.{sum_of, pair_up, as_bit, or_all}
 use Rattle.model.specs.Table.{excludes}
 use Rattle.model.specs.Format.{byte, kind_from, guard_from, CrossBinHead, cross_bin_head, tokens_of}
@@ -77,10 +78,10 @@ unfolding own_marks or_all pair_up
 own-none mask n hs ms = sym (ap (λ (xs : List ℕ). own_marks mask xs (drop n (take n ms))) (taken-end n n hs (omega arith)))
 
 pub own_back : (mask n i m own : ℕ) (hs ms : List ℕ) → 0 < i → i ≤ n → n ≤ length hs → n ≤ length ms → m ≡ own_mark mask (get_or hs (i - 1) 0) (get_or ms (i - 1) 0)
-    → own ≡ own_marks mask (drop i (take n hs)) (drop i (take n ms)) → bit_or m own ≡ own_marks mask (drop (i - 1) (take n hs)) (drop (i - 1) (take n ms))
+    → own ≡ own_marks mask (drop i (take n hs)) (drop i (take n ms)) → bit_or own m ≡ own_marks mask (drop (i - 1) (take n hs)) (drop (i - 1) (take n ms))
 unfolding own_marks or_all pair_up
 own_back mask n i m own hs ms h g k l em eo =
-    sym (ap₂ (own_marks mask) (turn hs k) (turn ms l) ∙ ap₂ bit_or (sym em) (sym eo))
+    or_comm own m ∙ sym (ap₂ (own_marks mask) (turn hs k) (turn ms l) ∙ ap₂ bit_or (sym em) (sym eo))
   where
     turn : (xs : List ℕ) → n ≤ length xs → drop (i - 1) (take n xs) ≡ get_or xs (i - 1) 0 ∷ drop i (take n xs)
     turn xs k = taken-turn n (i - 1) xs 0 (omega arith) k ∙ ap (λ (j : ℕ). get_or xs (i - 1) 0 ∷ drop j (take n xs)) (back i h)

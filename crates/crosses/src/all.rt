@@ -37,14 +37,10 @@ pub fn put_crosses(
     let mut at = ask.at;
     let mut base = 0;
     let mut p = first_place(l);
-    let mut c = 0;
-    while c < n {
+    for c in 0..n {
         let s = shape_of(t, counts, p);
         put_hits(&mut hits, t, gate, p, s);
-        let now = Ask {
-            at: at,
-            total: total,
-        };
+        let now = Ask { at, total };
         let x = Rows {
             cross: p.cross,
             bins: p.bins,
@@ -53,7 +49,6 @@ pub fn put_crosses(
         at = put_cross(flags, t, sample, &hits, &marks[base..], now, x);
         base += s.total;
         p = next_place(t, p);
-        c += 1;
     }
     at
 }

@@ -9,6 +9,7 @@ use crate::own::{every_mark, mask_of, own_marks};
 use arrays::put_one;
 use values::fields::guard_true;
 use words::bytes::byte;
+use words::kinds::Kind;
 
 // Where the flags begin, and which they are: those of the total, or those of a sample.
 #[derive(Clone, Copy)]
@@ -46,15 +47,17 @@ pub fn put_label(out: &mut [u8], cur: usize, kind: u8, cover: u8, illegal: u8) -
     requires { cur + length (label_of cover illegal (kind_from kind)) ≤ length out.old }
     ensures { (result ≡ cur + length (label_of cover illegal (kind_from kind))) × (out.new ≡ put cur (label_of cover illegal (kind_from kind)) out.old) }
 {
-    if kind == 0 {
-        out[cur] = cover;
-        return cur + 1;
+    match Kind::from(kind) {
+        Kind::Cover => {
+            out[cur] = cover;
+            cur + 1
+        }
+        Kind::Illegal => {
+            out[cur] = illegal;
+            cur + 1
+        }
+        _ => cur,
     }
-    if kind == 2 {
-        out[cur] = illegal;
-        return cur + 1;
-    }
-    cur
 }
 
 fn flag_of(on: bool, word: u16) -> u8
@@ -81,14 +84,12 @@ pub fn put_bins(
     let mut at = ask.at;
     let mut x = r.own;
     let mut y = r.every;
-    let mut i = 0;
-    while i < n {
+    for i in 0..n {
         let here = b + 3 * i;
         let on = live & passing(sample, total, byte(t, here + 1));
         at = put_label(flags, at, byte(t, here), flag_of(on, x), flag_of(on, y));
         x = x / 2;
         y = y / 2;
-        i += 1;
     }
     at
 }
@@ -105,11 +106,9 @@ fn put_products(
     requires { (n ≤ length hits.now) × (n ≤ length marks.now) × (cur + n ≤ length flags.old) }
     ensures { (result ≡ cur + n) × (flags.new ≡ put cur (product_flags live (take n hits.now) (take n marks.now)) flags.old) }
 {
-    let mut i = 0;
-    while i < n {
+    for i in 0..n {
         let own = (hits[i] == 1) & (marks[i] == 0);
         put_one(flags, cur + i, live & own);
-        i += 1;
     }
     cur + n
 }
@@ -135,7 +134,7 @@ pub fn put_cross(
     let k = byte(t, cp + 12) as usize;
     let live = passing(sample, total, byte(t, cp + 5));
     let r = Raised {
-        live: live,
+        live,
         own: own_marks(hits, marks, n, mask_of(t, bp, k)),
         every: every_mark(hits, marks, n, total),
     };

@@ -26,24 +26,14 @@ pub struct Elements {
 }
 
 // The elements of n bins from b on.
-fn put_labels(
-    out: &mut [u8],
-    cur: usize,
-    t: &[u8],
-    b: usize,
-    n: usize,
-    cover: u8,
-    illegal: u8,
-) -> usize
-    requires { (b < 1000000000000) × (n < 256) × (cur + length (bin_labels cover illegal (heads_at t.now b n)) ≤ length out.old) }
-    ensures { (result ≡ cur + length (bin_labels cover illegal (heads_at t.now b n))) × (out.new ≡ put cur (bin_labels cover illegal (heads_at t.now b n)) out.old) }
+fn put_labels(out: &mut [u8], cur: usize, t: &[u8], b: usize, n: usize, e: Elements) -> usize
+    requires { (b < 1000000000000) × (n < 256) × (cur + length (bin_labels e.cover e.illegal (heads_at t.now b n)) ≤ length out.old) }
+    ensures { (result ≡ cur + length (bin_labels e.cover e.illegal (heads_at t.now b n))) × (out.new ≡ put cur (bin_labels e.cover e.illegal (heads_at t.now b n)) out.old) }
 {
     let mut at = cur;
-    let mut i = 0;
-    while i < n {
+    for i in 0..n {
         let kind = byte(t, b + 3 * i);
-        at = put_label(out, at, kind, cover, illegal);
-        i += 1;
+        at = put_label(out, at, kind, e.cover, e.illegal);
     }
     at
 }
@@ -65,7 +55,7 @@ fn put_cross_labels(
     let bins = p.bins;
     let k = byte(t, at + 12) as usize;
     let s = shape_of(t, counts, p);
-    let next = put_labels(out, cur, t, bins, k, e.cover, e.illegal);
+    let next = put_labels(out, cur, t, bins, k, e);
     put_same(out, next, s.total, e.product)
 }
 
@@ -94,8 +84,7 @@ fn put_all_labels(
     let n = l.cross_count;
     let mut p = first_place(l);
     let mut at = cur;
-    let mut c = 0;
-    while c < n {
+    for c in 0..n {
         let d = shift_of(each, c);
         let x = Elements {
             cover: e.cover + d,
@@ -104,7 +93,6 @@ fn put_all_labels(
         };
         at = put_cross_labels(out, at, t, counts, x, p);
         p = next_place(t, p);
-        c += 1;
     }
     at
 }

@@ -8,6 +8,7 @@ ghost use Rattle.crosses.specs.Marked.{mark_total, Marked};
 
 use crate::order::{first_place, next_place};
 use layout::layout_of;
+use meets::plan::Plan;
 use products::marks::mark_products;
 use products::places::{Crossed, shape_of};
 
@@ -17,17 +18,20 @@ pub fn mark_all(marks: &mut [u16], t: &[u8], counts: &[u16], plan: &[u64], lists
     requires { (accepted t.now ≡ true) × (take (point_total (table_of t.now)) counts.now ≡ cover_counts (table_of t.now)) × Origins (table_of t.now) (drop 64 lists.now) × ValuesPlan (table_of t.now) plan.now lists.now × (mark_total (table_of t.now) ≤ length marks.old) }
     ensures { Marked (table_of t.now) marks.new }
 {
+    let plan = Plan {
+        table: t,
+        words: plan,
+        lists,
+    };
     let l = layout_of(t);
     let n = l.cross_count;
     let mut p = first_place(l);
     let mut at = 0;
-    let mut c = 0;
-    while c < n {
+    for c in 0..n {
         let s = shape_of(t, counts, p);
         let x = Crossed { place: p, shape: s };
-        mark_products(&mut marks[at..], t, plan, lists, x);
+        mark_products(&mut marks[at..], plan, x);
         at += s.total;
         p = next_place(t, p);
-        c += 1;
     }
 }

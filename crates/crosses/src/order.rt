@@ -15,11 +15,9 @@ fn token_total(t: &[u8], b: usize, n: usize) -> usize
     ensures { (result ≡ token_total t.now b n) × (result ≤ 255 * n) }
 {
     let mut sum: usize = 0;
-    let mut i = 0;
-    while i < n {
+    for i in 0..n {
         let k = byte(t, b + 3 * i + 2);
         sum += k as usize;
-        i += 1;
     }
     sum
 }

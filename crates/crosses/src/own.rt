@@ -6,11 +6,12 @@ ghost use Rattle.model.specs.Format.{kind_from};
 ghost use Rattle.crosses.specs.Flags.{heads_at, mask_of, own_mark, own_marks, every_mark};
 
 use words::bytes::byte;
+use words::kinds::Kind;
 
 fn excluding(kind: u8) -> u16
     ensures { result ≡ as_bit (excludes (kind_from kind)) }
 {
-    if (kind == 1) | (kind == 2) { 1 } else { 0 }
+    u16::from(Kind::from(kind).excludes())
 }
 
 // Which of the n bins from b on are ignore or illegal bins.
@@ -19,11 +20,8 @@ pub fn mask_of(t: &[u8], b: usize, n: usize) -> u16
     ensures { result ≡ mask_of (heads_at t.now b n) }
 {
     let mut mask: u16 = 0;
-    let mut i = n;
-    while 0 < i {
-        i -= 1;
-        let kind = byte(t, b + 3 * i);
-        mask = mask * 2 + excluding(kind);
+    for i in (0..n).rev() {
+        mask = mask * 2 + excluding(byte(t, b + 3 * i));
     }
     mask
 }
@@ -40,11 +38,8 @@ pub fn own_marks(hits: &[u8], marks: &[u16], n: usize, mask: u16) -> u16
     ensures { result ≡ own_marks mask (take n hits.now) (take n marks.now) }
 {
     let mut own: u16 = 0;
-    let mut i = n;
-    while 0 < i {
-        i -= 1;
-        let m = own_mark(hits[i], marks[i], mask);
-        own = m | own;
+    for i in (0..n).rev() {
+        own |= own_mark(hits[i], marks[i], mask);
     }
     own
 }

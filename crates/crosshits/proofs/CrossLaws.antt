@@ -6,7 +6,7 @@ use mathlib.Core.List.{List, [], ◌∷◌, ◌++◌, map}
 use Prim.Native.Nat.{ℕ, suc, ◌+◌, ◌-◌, ◌/◌, ◌≤◌, ◌<◌}
 use native.Mathlib.Omega.{arith}
 use lib.ListN.{length, get_or, take, drop, drop_of_length-le, replicate, length-replicate, length-append, length-map, length-take, length-drop}
-use lib.Seq.{length-take-le, drop-drop, take_all, get_or-take, get_or-drop, ext_get_or}
+use lib.Seq.{drop-drop, take_all, get_or-take, get_or-drop, ext_get_or}
 use borrow.Rule.Slice.PartMut.{put_mid}
 use Rattle.model.specs.Lists.{up_from, all, as_bit, or_all, pair_up}
 use Rattle.model.specs.Table.{Table, Kind, cover, ignore, illegal, default}
@@ -81,19 +81,26 @@ module _ (s w a xs : List ℕ) (x : Cross) where
   unfolding live_places
   live_parts m e = ap (λ (k : ℕ). places_from is_set x.first (live_flags s w a xs x) ++ own_places a x.start (x.first + k) xs) (sym e)
 
-pub live-room : (s w a xs : List ℕ) (x : Cross) (n : ℕ) (list hits : List ℕ) → xs ≡ take n list → n ≤ length list → x.at + (length (live_flags s w a xs x) + n) ≤ length hits → x.at + length (live_places s w a xs x) ≤ length hits
-live-room s w a xs x n list hits e h room =
+pub live-room : (s w a xs : List ℕ) (x : Cross) (hits : List ℕ) → x.at + (length (live_flags s w a xs x) + length xs) ≤ length hits → x.at + length (live_places s w a xs x) ≤ length hits
+live-room s w a xs x hits room =
     let m = length (live_flags s w a xs x) in
     let first = places_from is_set x.first (live_flags s w a xs x) in
     let rest = own_places a x.start (x.first + m) xs in
-    omega (arith, ap length (live_parts s w a xs x m refl), length-append first rest, places-few is_set x.first (live_flags s w a xs x), own-few a x.start (x.first + m) xs, ap length e, length-take-le n list h)
+    omega (arith, ap length (live_parts s w a xs x m refl), length-append first rest, places-few is_set x.first (live_flags s w a xs x), own-few a x.start (x.first + m) xs)
 
--- the flags of its bins, and their places over the hits from `at` on
+-- the flags of its bins: there are m, and the c places of those that are set stand in the hits from `at` on
+pub record BinsPut (s w a xs hits : List ℕ) (x : Cross) (m c : ℕ) (part : List ℕ) : Type 0 where
+  pub many : m ≡ length (live_flags s w a xs x)
+  pub places : c ≡ length (places_from is_set x.first (live_flags s w a xs x))
+  pub small : c ≤ m
+  pub written : put_mid x.at (length hits - x.at) hits part ≡ put x.at (places_from is_set x.first (live_flags s w a xs x)) hits
+  pub kept : length (put_mid x.at (length hits - x.at) hits part) ≡ length hits
+
 module _ (s w a xs hits : List ℕ) (x : Cross) (n m c : ℕ) (flags part bins : List ℕ) (few : byte s (x.place.cross + 12) ≤ 16) (same : bins ≡ live_flags s w a xs x)
     (room : x.at + (length (live_flags s w a xs x) + n) ≤ length hits)
     (em : m ≡ 0 + length bins) (ef : flags ≡ put 0 bins (replicate 16 0))
     (ec : c ≡ length (places_from is_set x.first (take m flags))) (ep : part ≡ put 0 (places_from is_set x.first (take m flags)) (take (length hits - x.at) (drop x.at hits))) where
-  pub bins_many : m ≡ length (live_flags s w a xs x)
+  bins_many : m ≡ length (live_flags s w a xs x)
   bins_many = omega (arith, em, ap length same)
 
   set_are : take m flags ≡ live_flags s w a xs x
@@ -101,19 +108,22 @@ module _ (s w a xs hits : List ℕ) (x : Cross) (n m c : ℕ) (flags part bins :
       let long : length bins ≡ m = omega arith in
       ap (take m) ef ∙ front-put m bins (replicate 16 0) long (omega (arith, length-replicate {A = ℕ} 16 0, flags_few s w a xs x few, bins_many)) ∙ same
 
-  pub places_many : c ≡ length (places_from is_set x.first (live_flags s w a xs x))
+  places_many : c ≡ length (places_from is_set x.first (live_flags s w a xs x))
   places_many = ec ∙ ap (λ (v : List ℕ). length (places_from is_set x.first v)) set_are
 
-  pub places_small : c ≤ m
+  places_small : c ≤ m
   places_small = omega (arith, places_many, places-few is_set x.first (live_flags s w a xs x), bins_many)
 
-  pub bins_written : put_mid x.at (length hits - x.at) hits part ≡ put x.at (places_from is_set x.first (live_flags s w a xs x)) hits
+  bins_written : put_mid x.at (length hits - x.at) hits part ≡ put x.at (places_from is_set x.first (live_flags s w a xs x)) hits
   bins_written =
       part-written x.at (places_from is_set x.first (live_flags s w a xs x)) hits part (omega (arith, places-few is_set x.first (live_flags s w a xs x)))
       (ep ∙ ap (λ (v : List ℕ). put 0 (places_from is_set x.first v) (take (length hits - x.at) (drop x.at hits))) set_are)
 
-  pub bins_kept : length (put_mid x.at (length hits - x.at) hits part) ≡ length hits
+  bins_kept : length (put_mid x.at (length hits - x.at) hits part) ≡ length hits
   bins_kept = ap length bins_written ∙ length-put x.at (places_from is_set x.first (live_flags s w a xs x)) hits (omega (arith, places-few is_set x.first (live_flags s w a xs x)))
+
+  pub bins_put : BinsPut s w a xs hits x m c part
+  bins_put = record { many = bins_many; places = places_many; small = places_small; written = bins_written; kept = bins_kept }
 
 -- ---- a guard that does not hold
 
@@ -209,11 +219,11 @@ module _ (s w f a : List ℕ) (x : Cross) (given : Given s w f a x) where
       let fit : length xs ≤ length l = omega (arith, numbers_many) in
       (ap (take n) el ∙ front-put n xs l (sym long) (omega arith), long, omega (arith, ap length el, length-put 0 xs l (omega arith)))
 
-  pub numbers_below : (n : ℕ) (l : List ℕ) → take n l ≡ cross_numbers s f x → n ≡ length (cross_numbers s f x) → Below n 1024 l
+  pub numbers_below : (l : List ℕ) → l ≡ cross_numbers s f x → Below (length l) 1024 l
   unfolding Below
-  numbers_below n l e en i h =
-      let b = below_at (0 + length (products T c)) hit_numbers (places-below hit 0 (products T c)) i (omega (arith, ap length numbers_are)) in
-      let same = sym (get_or-take n l i 0 h) ∙ ap (λ (v : List ℕ). get_or v i 0) (e ∙ numbers_are) in
+  numbers_below l e i h =
+      let b = below_at (0 + length (products T c)) hit_numbers (places-below hit 0 (products T c)) i (omega (arith, ap length e, ap length numbers_are)) in
+      let same = ap (λ (v : List ℕ). get_or v i 0) (e ∙ numbers_are) in
       omega (arith, b, same, many_products_lem, given.fits.whole.small)
 
   -- ---- the flags

@@ -1,62 +1,52 @@
 -- The marks and places of listed products.
 -- Assumes nothing.
-use mathlib.Core.Path.{◌≡◌, refl, sym, ap, ap₂, ◌∙◌}
+use mathlib.Core.Path.{◌≡◌, refl, sym, ap, ◌∙◌}
 use mathlib.Core.Bool.{Bool, true, false, cond}
 use mathlib.Core.List.{List, [], ◌∷◌, ◌++◌, map}
-use Prim.Native.Nat.{ℕ, suc, ◌+◌, ◌-◌, ◌≤◌, ◌<◌}
+use Prim.Native.Nat.{ℕ, suc, ◌+◌, ◌≤◌, ◌<◌}
 use native.Mathlib.Omega.{arith}
 use lib.Dec.{eqb}
-use lib.Bits.{bit_or, or_zero_l}
-use lib.ListN.{length, get_or, take, drop, length-append, length-take, drop_of_length-le}
+use lib.Bits.{bit_or, or_zero_l, or_zero_r}
+use lib.ListN.{length, get_or, drop, length-append, drop_of_length-le}
 use Rattle.model.specs.Lists.{up_from, as_bit, or_all, pair_up}
-use Rattle.model.proofs.Lists.{taken-turn}
+use Rattle.model.proofs.Lists.{head_tail}
+use Rattle.model.proofs.RunBits.{or_assoc}
 use Rattle.places.specs.Places.{place_if, places_from, is_set}
 use Rattle.places.proofs.PlaceLaws.{one_place}
 use Rattle.crosses.specs.Flags.{own_mark, own_marks, product_flag, product_flags}
 use Rattle.products.specs.Marks.{Below}
 use Rattle.crosshits.specs.Listed.{list_marks, own_places}
 
-taken-end : (n i : ℕ) (xs : List ℕ) → n ≤ i → drop i (take n xs) ≡ []
-taken-end n i xs h = let k : length (take n xs) ≤ i = simp length-take (omega arith) in drop_of_length-le (take n xs) k
-
-back : (i : ℕ) → 0 < i → (i - 1) + 1 ≡ i
-back i h = omega arith
-
 pub below : (n w : ℕ) (xs : List ℕ) → Below n w xs → (i : ℕ) → i < n → get_or xs i 0 < w
 unfolding Below
 below n w xs h i k = h i k
 
--- ---- the marks, from the last product to the first
+-- ---- one product after the other
 
-module _ (mask : ℕ) (a : List ℕ) (start n : ℕ) (xs : List ℕ) where
-  pub marks_none : 0 ≡ list_marks mask a start (drop n (take n xs))
+module _ (mask : ℕ) (a : List ℕ) (start : ℕ) (xs : List ℕ) where
+  pub marks_turn : (i m own : ℕ) → i < length xs → m ≡ own_mark mask 1 (get_or a (start + get_or xs i 0) 0)
+      → bit_or (bit_or own m) (list_marks mask a start (drop (i + 1) xs)) ≡ bit_or own (list_marks mask a start (drop i xs))
   unfolding list_marks or_all
-  marks_none = sym (ap (list_marks mask a start) (taken-end n n xs (omega arith)))
+  marks_turn i m own h em =
+      or_assoc own m (list_marks mask a start (drop (i + 1) xs))
+      ∙ ap (λ (z : ℕ). bit_or own (bit_or z (list_marks mask a start (drop (i + 1) xs)))) em
+      ∙ ap (λ (l : List ℕ). bit_or own (list_marks mask a start l)) (sym (head_tail xs i 0 h))
 
-  pub marks_back : (i m x y own : ℕ) → 0 < i → i ≤ n → n ≤ length xs → y ≡ get_or xs (i - 1) 0 → x ≡ get_or a (start + y) 0 → m ≡ own_mark mask 1 x
-      → own ≡ list_marks mask a start (drop i (take n xs)) → bit_or m own ≡ list_marks mask a start (drop (i - 1) (take n xs))
+  pub marks_end : (i own : ℕ) → length xs ≤ i → bit_or own (list_marks mask a start (drop i xs)) ≡ own
   unfolding list_marks or_all
-  marks_back i m x y own h g k ey ex em eo =
-      sym (ap (list_marks mask a start) (taken-turn n (i - 1) xs 0 (omega arith) k ∙ ap (λ (j : ℕ). get_or xs (i - 1) 0 ∷ drop j (take n xs)) (back i h))
-      ∙ ap₂ bit_or (sym (em ∙ ap (own_mark mask 1) (ex ∙ ap (λ (z : ℕ). get_or a (start + z) 0) ey))) (sym eo))
+  marks_end i own h = ap (λ (l : List ℕ). bit_or own (list_marks mask a start l)) (drop_of_length-le xs h) ∙ or_zero_r own
 
-  pub marks_done : (i own : ℕ) → i ≡ 0 → own ≡ list_marks mask a start (drop i (take n xs)) → own ≡ list_marks mask a start (take n xs)
-  marks_done i own e eo = eo ∙ ap (λ (j : ℕ). list_marks mask a start (drop j (take n xs))) e
-
--- ---- the places, from the first to the last
-
-module _ (a : List ℕ) (start first n : ℕ) (xs : List ℕ) where
-  pub own_turn : (i m y : ℕ) → i < n → n ≤ length xs → y ≡ get_or xs i 0 → m ≡ get_or a (start + y) 0
-      → own_places a start first (drop i (take n xs)) ≡ place_if (eqb m 0) (first + y) ++ own_places a start first (drop (i + 1) (take n xs))
+module _ (a : List ℕ) (start first : ℕ) (xs : List ℕ) where
+  pub own_turn : (i m : ℕ) → i < length xs → m ≡ get_or a (start + get_or xs i 0) 0
+      → own_places a start first (drop i xs) ≡ place_if (eqb m 0) (first + get_or xs i 0) ++ own_places a start first (drop (i + 1) xs)
   unfolding own_places
-  own_turn i m y h k ey em =
-      ap (own_places a start first) (taken-turn n i xs 0 h k)
-      ∙ ap (λ (z : ℕ). place_if (eqb (get_or a (start + z) 0) 0) (first + z) ++ own_places a start first (drop (i + 1) (take n xs))) (sym ey)
-      ∙ ap (λ (z : ℕ). place_if (eqb z 0) (first + y) ++ own_places a start first (drop (i + 1) (take n xs))) (sym em)
+  own_turn i m h em =
+      ap (own_places a start first) (head_tail xs i 0 h)
+      ∙ ap (λ (z : ℕ). place_if (eqb z 0) (first + get_or xs i 0) ++ own_places a start first (drop (i + 1) xs)) (sym em)
 
-  pub own_end : (i : ℕ) → n ≤ i → own_places a start first (drop i (take n xs)) ≡ []
+  pub own_end : (i : ℕ) → length xs ≤ i → own_places a start first (drop i xs) ≡ []
   unfolding own_places
-  own_end i h = ap (own_places a start first) (taken-end n i xs h)
+  own_end i h = ap (own_places a start first) (drop_of_length-le xs h)
 
 pub own-few : (a : List ℕ) (start first : ℕ) (xs : List ℕ) → length (own_places a start first xs) ≤ length xs
 unfolding own_places

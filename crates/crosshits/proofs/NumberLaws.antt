@@ -4,7 +4,7 @@ use mathlib.Core.Path.{◌≡◌, refl, sym, ap, ap₂, ◌∙◌, subst}
 use mathlib.Core.Bool.{Bool, true, false, ◌&&◌, cond}
 use mathlib.Core.List.{List, [], ◌∷◌, ◌++◌, map}
 use Prim.Native.Nat.{ℕ, zero, suc, ◌+◌, ◌-◌, ◌*◌, ◌^◌, ◌≤◌, ◌<◌}
-use native.Mathlib.Nat.{mul-le-mul, pow-le-pow_right}
+use native.Mathlib.Nat.{mul-le-mul, mul_comm, pow-le-pow_right}
 use native.Mathlib.Omega.{arith}
 use lib.ListN.{length, get_or, drop, length-map, length-append, drop_of_length-le}
 use lib.Seq.{get_or-take, get_or-drop, ext_get_or}
@@ -124,12 +124,12 @@ module _ (s a : List ℕ) where
   total_none at n = ap (hit_total s a (at + n)) (let z : 0 ≡ n - n = omega arith in z)
 
   -- one position more, from the last back
-  pub total_turn : (at n i p k total : ℕ) → 0 < i → i ≤ n → p ≡ byte s (at + (i - 1)) → k ≡ get_or a (257 * p) 0 → total ≡ hit_total s a (at + i) (n - i) → k * total ≡ hit_total s a (at + (i - 1)) (n - (i - 1))
+  pub total_turn : (at n i p k total : ℕ) → 0 < i → i ≤ n → p ≡ byte s (at + (i - 1)) → k ≡ get_or a (257 * p) 0 → total ≡ hit_total s a (at + i) (n - i) → total * k ≡ hit_total s a (at + (i - 1)) (n - (i - 1))
   unfolding hit_total
   total_turn at n i p k total pos h ep ek et =
       let here : at + i ≡ at + (i - 1) + 1 = omega arith in
       let left : n - (i - 1) ≡ suc (n - i) = omega arith in
-      ap₂ ◌*◌ (ek ∙ ap (λ (q : ℕ). get_or a (257 * q) 0) ep) (et ∙ ap (λ (b : ℕ). hit_total s a b (n - i)) here) ∙ ap (hit_total s a (at + (i - 1))) (sym left)
+      mul_comm total k ∙ ap₂ ◌*◌ (ek ∙ ap (λ (q : ℕ). get_or a (257 * q) 0) ep) (et ∙ ap (λ (b : ℕ). hit_total s a b (n - i)) here) ∙ ap (hit_total s a (at + (i - 1))) (sym left)
 
   pub total_all : (at n i total : ℕ) → i ≡ 0 → total ≡ hit_total s a (at + i) (n - i) → total ≡ hit_total s a at n
   total_all at n i total e et = et ∙ ap₂ (hit_total s a) (let z : at + i ≡ at = omega arith in z) (let z : n - i ≡ n = omega arith in z)
@@ -138,11 +138,11 @@ module _ (s a : List ℕ) where
 pub factors-none : (n : ℕ) → 1 ≤ 65535 ^ (n - n)
 factors-none n = subst (λ (k : ℕ). 1 ≤ 65535 ^ k) (let z : 0 ≡ n - n = omega arith in z) (omega arith)
 
-pub factors-turn : (n i x total : ℕ) → n ≤ 4 → 0 < i → i ≤ n → x ≤ 65535 → total ≤ 65535 ^ (n - i) → (x * total ≤ 65535 ^ (n - (i - 1))) × (x * total ≤ 65535 ^ 4)
+pub factors-turn : (n i x total : ℕ) → n ≤ 4 → 0 < i → i ≤ n → x ≤ 65535 → total ≤ 65535 ^ (n - i) → (total * x ≤ 65535 ^ (n - (i - 1))) × (total * x ≤ 65535 ^ 4)
 factors-turn n i x total few pos h hx ht =
     let left : n - (i - 1) ≡ suc (n - i) = omega arith in
-    let more : x * total ≤ 65535 ^ suc (n - i) = omega (arith, mul-le-mul hx ht) in
-    (subst (λ (k : ℕ). x * total ≤ 65535 ^ k) (sym left) more, omega (arith, more, pow-le-pow_right {n = 65535} (omega arith) {i = suc (n - i)} {j = 4} (omega arith)))
+    let more : total * x ≤ 65535 ^ suc (n - i) = omega (arith, mul_comm total x, mul-le-mul hx ht) in
+    (subst (λ (k : ℕ). total * x ≤ 65535 ^ k) (sym left) more, omega (arith, more, pow-le-pow_right {n = 65535} (omega arith) {i = suc (n - i)} {j = 4} (omega arith)))
 
 -- ---- the products of tuples
 

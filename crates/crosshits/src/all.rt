@@ -34,21 +34,19 @@ pub fn put_cross_hits(
     let mut first = base;
     let mut start = 16;
     let mut p = first_place(l);
-    let mut c = 0;
-    while c < n {
+    for c in 0..n {
         let s = shape_of(t, plan, p);
         let x = Cross {
             place: p,
             shape: s,
-            first: first,
-            start: start,
-            at: at,
+            first,
+            start,
+            at,
         };
         at = put_one(hits, t, sample, found, plan, x);
         first += counters_of(t, p, s);
         start += s.total;
         p = next_place(t, p);
-        c += 1;
     }
     at
 }

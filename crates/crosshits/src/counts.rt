@@ -9,15 +9,16 @@ ghost use Rattle.crosses.specs.Labels.{bin_labels};
 use products::places::Place;
 use products::shapes::Shape;
 use words::bytes::byte;
+use words::kinds::Kind;
 
 // One for a cover bin, one for an illegal bin.
 fn label_count(kind: u8) -> usize
     ensures { (result ≡ length (label_of 0 0 (kind_from kind))) × (result ≤ 1) }
 {
-    if kind == 0 {
-        return 1;
+    match Kind::from(kind) {
+        Kind::Cover | Kind::Illegal => 1,
+        _ => 0,
     }
-    if kind == 2 { 1 } else { 0 }
 }
 
 // Those of n bins from b on.
@@ -26,11 +27,9 @@ fn bin_count(t: &[u8], b: usize, n: usize) -> usize
     ensures { result ≡ length (bin_labels 0 0 (heads_at t.now b n)) }
 {
     let mut sum: usize = 0;
-    let mut i = 0;
-    while i < n {
+    for i in 0..n {
         let k = byte(t, b + 3 * i);
         sum += label_count(k);
-        i += 1;
     }
     sum
 }

@@ -1,5 +1,5 @@
 // The places of one cross.
-ghost use Rattle.std.specs.Prelude.{◌≡◌, ◌+◌, ◌≤◌, length, take};
+ghost use Rattle.std.specs.Prelude.{◌≡◌, ◌+◌, ◌≤◌, length};
 ghost use Rattle.model.specs.Counters.{cross_counters};
 ghost use Rattle.model.specs.Sampling.{Stretches};
 ghost use Rattle.model.specs.Format.{byte as byte_at, table_of};
@@ -27,18 +27,17 @@ pub struct Cross {
     pub at: usize,
 }
 
-// The guard of the cross holds, and n numbers of hit products are listed.
+// The guard of the cross holds, and the numbers of the hit products are listed.
 fn put_live(
     hits: &mut [u16],
     list: &[u16],
     t: &[u8],
     sample: &[u32],
     plan: &[u16],
-    n: usize,
     x: Cross,
 ) -> usize
-    requires { (x.place.cross ≤ 65536) × (x.place.bins ≤ 65536) × (byte_at t.now (x.place.cross + 12) ≤ 16) × (n ≤ length list.now) × Below n 1024 list.now × (x.start ≤ 65536) × (x.first + length (live_flags t.now sample.now plan.now (take n list.now) x) ≤ 64511) × (x.at + (length (live_flags t.now sample.now plan.now (take n list.now) x) + n) ≤ length hits.old) × (x.at ≤ x.first) }
-    ensures { (result ≡ x.at + length (live_places t.now sample.now plan.now (take n list.now) x)) × (hits.new ≡ put x.at (live_places t.now sample.now plan.now (take n list.now) x) hits.old) }
+    requires { (x.place.cross ≤ 65536) × (x.place.bins ≤ 65536) × (byte_at t.now (x.place.cross + 12) ≤ 16) × Below (length list.now) 1024 list.now × (x.start ≤ 65536) × (x.first + length (live_flags t.now sample.now plan.now list.now x) ≤ 64511) × (x.at + (length (live_flags t.now sample.now plan.now list.now x) + length list.now) ≤ length hits.old) × (x.at ≤ x.first) }
+    ensures { (result ≡ x.at + length (live_places t.now sample.now plan.now list.now x)) × (hits.new ≡ put x.at (live_places t.now sample.now plan.now list.now x) hits.old) }
 {
     let mut flags = [0u8; 16];
     let p = x.place;
@@ -49,21 +48,21 @@ fn put_live(
     let k = byte(t, p.cross + 12) as usize;
     let r = Raised {
         live: true,
-        own: marks_of(list, n, plan, start, mask_of(t, b, k)),
-        every: marks_of(list, n, plan, start, 0),
+        own: marks_of(list, plan, start, mask_of(t, b, k)),
+        every: marks_of(list, plan, start, 0),
     };
     let ask = Ask {
         at: 0,
         total: false,
     };
     let m = put_bins(&mut flags, t, sample, ask, r, b, k);
-    let c = put_set(&mut hits[at..], &flags, m, first);
+    let c = put_set(&mut hits[at..], &flags[..m], first);
     let y = Products {
         at: at + c,
         first: first + m,
-        start: start,
+        start,
     };
-    put_own(hits, list, n, plan, y)
+    put_own(hits, list, plan, y)
 }
 
 // The numbers of the hit products are listed first; `list` has room for them.
@@ -88,12 +87,12 @@ fn put_listed(
         q: 0,
     };
     let n = put_numbers(list, t, found, s, y);
-    put_live(hits, list, t, sample, plan, n, x)
+    put_live(hits, &list[..n], t, sample, plan, x)
 }
 
 // ---- size classes
 
-fn put_few(
+fn put_within<const N: usize>(
     hits: &mut [u16],
     t: &[u8],
     sample: &[u32],
@@ -101,25 +100,11 @@ fn put_few(
     plan: &[u16],
     x: Cross,
 ) -> usize
-    requires { Given t.now sample.now found.now plan.now x × (x.at + length (cross_counters (table_of t.now) x.place.number) ≤ length hits.old) × (cross_total t.now found.now x ≤ 64) }
+    requires small { N ≤ 1024 }
+    requires given { Given t.now sample.now found.now plan.now x × (x.at + length (cross_counters (table_of t.now) x.place.number) ≤ length hits.old) × (cross_total t.now found.now x ≤ N) }
     ensures { (result ≡ x.at + length (live_places t.now sample.now plan.now (cross_numbers t.now found.now x) x)) × (hits.new ≡ put x.at (live_places t.now sample.now plan.now (cross_numbers t.now found.now x) x) hits.old) }
 {
-    let mut list = [0u16; 64];
-    put_listed(hits, &mut list, t, sample, found, plan, x)
-}
-
-fn put_many(
-    hits: &mut [u16],
-    t: &[u8],
-    sample: &[u32],
-    found: &[u16],
-    plan: &[u16],
-    x: Cross,
-) -> usize
-    requires { Given t.now sample.now found.now plan.now x × (x.at + length (cross_counters (table_of t.now) x.place.number) ≤ length hits.old) }
-    ensures { (result ≡ x.at + length (live_places t.now sample.now plan.now (cross_numbers t.now found.now x) x)) × (hits.new ≡ put x.at (live_places t.now sample.now plan.now (cross_numbers t.now found.now x) x) hits.old) }
-{
-    let mut list = [0u16; 1024];
+    let mut list = [0u16; N];
     put_listed(hits, &mut list, t, sample, found, plan, x)
 }
 
@@ -148,7 +133,7 @@ pub fn put_one(
         return at;
     }
     if n <= 64 {
-        return put_few(hits, t, sample, found, plan, x);
+        return put_within::<64>(hits, t, sample, found, plan, x);
     }
-    put_many(hits, t, sample, found, plan, x)
+    put_within::<1024>(hits, t, sample, found, plan, x)
 }

@@ -13,12 +13,9 @@ pub fn hit_count(t: &[u8], found: &[u16], point: usize, n: usize) -> usize
     ensures { result ≡ hit_total t.now found.now point n }
 {
     let mut total: usize = 1;
-    let mut i = n;
-    while 0 < i {
-        i -= 1;
+    for i in (0..n).rev() {
         let p = byte(t, point + i) as usize;
-        let k = element(found, 257 * p) as usize;
-        total = k * total;
+        total *= element(found, 257 * p) as usize;
     }
     total
 }
@@ -49,8 +46,7 @@ pub fn put_numbers(list: &mut [u16], t: &[u8], found: &[u16], s: Shape, x: Turn)
     let row = 257 * (byte(t, point) as usize);
     let n = element(found, row) as usize;
     let mut e = at;
-    let mut i = 0;
-    while i < n {
+    for i in 0..n {
         let d = element(found, row + 1 + i) as usize;
         let y = Turn {
             at: e,
@@ -59,7 +55,6 @@ pub fn put_numbers(list: &mut [u16], t: &[u8], found: &[u16], s: Shape, x: Turn)
             q: q + 1,
         };
         e = put_numbers(list, t, found, s, y);
-        i += 1;
     }
     e
 }

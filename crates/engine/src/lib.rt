@@ -1,7 +1,7 @@
 // Which counters a sample hits, by what was worked out of its table once a call.
 #![tactic(auto)]
 
-ghost use Rattle.std.specs.Prelude.{◌≡◌, true, ◌+◌, ◌*◌, ◌≤◌, length, take, drop};
+ghost use Rattle.std.specs.Prelude.{◌≡◌, true, ◌+◌, ◌*◌, ◌<◌, ◌≤◌, length, take, drop};
 ghost use Rattle.model.specs.Format.{accepted, table_of};
 ghost use Rattle.model.specs.Sampling.{Stretches, hits as hit_by};
 ghost use Rattle.model.specs.Register.{point_total, counter_total, run_stretches};
@@ -13,6 +13,7 @@ ghost use Rattle.lists.specs.Lists.{marks_at, lists_need, Planned};
 ghost use Rattle.lists.specs.Stages.{Listed};
 
 use arrays::element;
+use arrays::reading::Reading;
 use crosshits::all::put_cross_hits;
 use found::all::find_all;
 use hits::all::put_point_hits;
@@ -42,7 +43,7 @@ fn put_hits(
     hits: &mut [u16],
     t: &[u8],
     sample: &[u32],
-    readings: &[u64],
+    readings: &[Reading],
     lens: &[u32],
     found: &[u16],
     lists: &[u16],
@@ -59,55 +60,21 @@ fn put_hits(
     k + c
 }
 
-// ---- size classes
-
-fn find_small(
+// The places of the counters that the sample hits, with room for N elements of cover bins found. It is not inlined: each size has a frame of its own.
+#[inline(never)]
+fn find_in<const N: usize>(
     hits: &mut [u16],
     t: &[u8],
     sample: &[u32],
-    readings: &[u64],
+    readings: &[Reading],
     lens: &[u32],
     plan: &[u64],
     lists: &[u16],
 ) -> usize
-    requires { (accepted t.now ≡ true) × Readings (table_of t.now) sample.now readings.now × (16 ≤ length readings.now) × (64 ≤ length lens.now) × (counter_total (table_of t.now) + 256 ≤ length hits.old) × Planned (table_of t.now) plan.now lists.now × (point_total (table_of t.now) ≤ 4) }
+    requires { (accepted t.now ≡ true) × Readings (table_of t.now) sample.now readings.now × (16 ≤ length readings.now) × (64 ≤ length lens.now) × (counter_total (table_of t.now) + 256 ≤ length hits.old) × Planned (table_of t.now) plan.now lists.now × (257 * point_total (table_of t.now) ≤ N) × (N < 65536) }
     ensures { (result ≡ length (hit_places (table_of t.now) sample.now (run_stretches (take (length (table_of t.now).transition_bins) lens.now)))) × (hits.new ≡ put 0 (hit_places (table_of t.now) sample.now (run_stretches (take (length (table_of t.now).transition_bins) lens.now))) hits.old) }
 {
-    let mut found = [0u16; 1028];
-    find_all(&mut found, t, sample, readings, plan, lists);
-    put_hits(hits, t, sample, readings, lens, &found, lists)
-}
-
-fn find_medium(
-    hits: &mut [u16],
-    t: &[u8],
-    sample: &[u32],
-    readings: &[u64],
-    lens: &[u32],
-    plan: &[u64],
-    lists: &[u16],
-) -> usize
-    requires { (accepted t.now ≡ true) × Readings (table_of t.now) sample.now readings.now × (16 ≤ length readings.now) × (64 ≤ length lens.now) × (counter_total (table_of t.now) + 256 ≤ length hits.old) × Planned (table_of t.now) plan.now lists.now × (point_total (table_of t.now) ≤ 8) }
-    ensures { (result ≡ length (hit_places (table_of t.now) sample.now (run_stretches (take (length (table_of t.now).transition_bins) lens.now)))) × (hits.new ≡ put 0 (hit_places (table_of t.now) sample.now (run_stretches (take (length (table_of t.now).transition_bins) lens.now))) hits.old) }
-{
-    let mut found = [0u16; 2056];
-    find_all(&mut found, t, sample, readings, plan, lists);
-    put_hits(hits, t, sample, readings, lens, &found, lists)
-}
-
-fn find_largest(
-    hits: &mut [u16],
-    t: &[u8],
-    sample: &[u32],
-    readings: &[u64],
-    lens: &[u32],
-    plan: &[u64],
-    lists: &[u16],
-) -> usize
-    requires { (accepted t.now ≡ true) × Readings (table_of t.now) sample.now readings.now × (16 ≤ length readings.now) × (64 ≤ length lens.now) × (counter_total (table_of t.now) + 256 ≤ length hits.old) × Planned (table_of t.now) plan.now lists.now }
-    ensures { (result ≡ length (hit_places (table_of t.now) sample.now (run_stretches (take (length (table_of t.now).transition_bins) lens.now)))) × (hits.new ≡ put 0 (hit_places (table_of t.now) sample.now (run_stretches (take (length (table_of t.now).transition_bins) lens.now))) hits.old) }
-{
-    let mut found = [0u16; 4112];
+    let mut found = [0u16; N];
     find_all(&mut found, t, sample, readings, plan, lists);
     put_hits(hits, t, sample, readings, lens, &found, lists)
 }
@@ -117,7 +84,7 @@ pub fn find_hits(
     hits: &mut [u16],
     t: &[u8],
     sample: &[u32],
-    readings: &[u64],
+    readings: &[Reading],
     lens: &[u32],
     plan: &[u64],
     lists: &[u16],
@@ -127,10 +94,10 @@ pub fn find_hits(
 {
     let n = point_count(t);
     if n <= 4 {
-        return find_small(hits, t, sample, readings, lens, plan, lists);
+        return find_in::<1028>(hits, t, sample, readings, lens, plan, lists);
     }
     if n <= 8 {
-        return find_medium(hits, t, sample, readings, lens, plan, lists);
+        return find_in::<2056>(hits, t, sample, readings, lens, plan, lists);
     }
-    find_largest(hits, t, sample, readings, lens, plan, lists)
+    find_in::<4112>(hits, t, sample, readings, lens, plan, lists)
 }

@@ -1,80 +1,36 @@
-// The calls that ask for figures: each answers with a refusal number, 0 if the call is accepted, and the figure.
+// The calls that ask for figures.
 #![tactic(auto)]
 
 ghost use Rattle.std.specs.Prelude.{◌≡◌};
 ghost use Rattle.model.specs.Register as Model;
-ghost use Rattle.figure_calls.specs.Answers.{item_answer, group_answer};
+ghost use Rattle.refusals.specs.Numbers.{number_in};
+ghost use Rattle.figure_calls.specs.Answers.{item_in, group_in};
 
-use figures::{Figure, GroupFigure};
+use figures::Figure;
 use layout::layout_of;
-use refusals::{item_refusal, register_refusal};
+use refusals::refusal::Refusal;
+use refusals::{test_item, test_register};
 use table::facts;
 
-// A refusal number, and an item's figure.
-#[derive(Clone, Copy)]
-pub struct ItemAnswer {
-    pub number: u32,
-    pub figure: Figure,
-}
-
-// A refusal number, and the group's figure.
-#[derive(Clone, Copy)]
-pub struct GroupAnswer {
-    pub number: u32,
-    pub figure: GroupFigure,
-}
-
 // An item's figure: its coverage in percent, or none.
-pub fn item_figure(table: &[u8], register: &[u32], item: usize) -> ItemAnswer
-    ensures number_value { result.number ≡ (Model.call table.now register.now (Model.ask_item item)).response.number }
-    ensures figure_value { item_answer result.figure ≡ (Model.call table.now register.now (Model.ask_item item)).response.answer }
+pub fn item_figure(table: &[u8], register: &[u32], item: usize) -> Result<Figure, Refusal>
+    ensures number_value { number_in result ≡ (Model.call table.now register.now (Model.ask_item item)).response.number }
+    ensures figure_value { item_in result ≡ (Model.call table.now register.now (Model.ask_item item)).response.answer }
 {
-    let f = facts(table);
-    let own = f.number;
-    if own != 0 {
-        return ItemAnswer {
-            number: own,
-            figure: Figure::Nothing,
-        };
-    }
+    let f = facts(table)?;
     let l = layout_of(table);
-    let number = item_refusal(register, item, l.point_count + l.cross_count, f);
-    if number != 0 {
-        return ItemAnswer {
-            number: number,
-            figure: Figure::Nothing,
-        };
-    }
-    let figure = coverage::figure::item_figure(table, register, item, f.counters, f.points);
-    ItemAnswer {
-        number: 0,
-        figure: figure,
-    }
+    test_item(register, item, l.point_count + l.cross_count, f)?;
+    let figure = coverage::figure::item_figure(table, register, item, f.counters);
+    Ok(figure)
 }
 
 // The group's figure: its coverage in millionths of a percent, or none.
-pub fn group_figure(table: &[u8], register: &[u32]) -> GroupAnswer
-    ensures number_value { result.number ≡ (Model.call table.now register.now Model.ask_group).response.number }
-    ensures figure_value { group_answer result.figure ≡ (Model.call table.now register.now Model.ask_group).response.answer }
+pub fn group_figure(table: &[u8], register: &[u32]) -> Result<Option<u32>, Refusal>
+    ensures number_value { number_in result ≡ (Model.call table.now register.now Model.ask_group).response.number }
+    ensures figure_value { group_in result ≡ (Model.call table.now register.now Model.ask_group).response.answer }
 {
-    let f = facts(table);
-    let own = f.number;
-    if own != 0 {
-        return GroupAnswer {
-            number: own,
-            figure: GroupFigure::Missing,
-        };
-    }
-    let number = register_refusal(register, f);
-    if number != 0 {
-        return GroupAnswer {
-            number: number,
-            figure: GroupFigure::Missing,
-        };
-    }
-    let figure = coverage::figure::group_figure(table, register, f.counters, f.points);
-    GroupAnswer {
-        number: 0,
-        figure: figure,
-    }
+    let f = facts(table)?;
+    test_register(register, f)?;
+    let figure = coverage::figure::group_figure(table, register, f.counters);
+    Ok(figure)
 }

@@ -12,7 +12,7 @@ use borrow.Author.Tests.{eqb-true, ne_eqb}
 use Rattle.model.specs.Lists.{up_from, keep, sum_of}
 use Rattle.model.specs.Figures.{Item, counts, weighted, group_of}
 use Rattle.figures.specs.Figures.{group_case, item, weight_of, sums, items_from, sums_from, AtMostFull, mean}
-use Rattle.figures.specs.declared.GroupFigure.{GroupFigure}
+use Rattle.std.specs.Prelude as std
 use Rattle.figures.specs.declared.Group.{Group}
 
 abbrev group : ℕ → ℕ → Group
@@ -97,5 +97,5 @@ mean-sums items = refl
 
 -- the figure at a loop's end
 pub figure-done : (f : ℕ → Item) (n i : ℕ) (g : Group) → sums (items_from f 0 n) ≡ sums_from g (items_from f i (n - i)) → n ≤ i
-    → (r : GroupFigure) → r ≡ group_case (mean g) → r ≡ group_case (group_of (items_from f 0 n))
+    → (r : std.Option ℕ) → r ≡ group_case (mean g) → r ≡ group_case (group_of (items_from f 0 n))
 figure-done f n i g inv h r e = e ∙ ap (λ (s : Group). group_case (mean s)) (sym (items-done f n i g _ inv h)) ∙ ap group_case (mean-sums (items_from f 0 n))

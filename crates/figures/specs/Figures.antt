@@ -1,14 +1,13 @@
 -- The model's figures as this crate's types, and the two sums from which the group's figure is made.
 -- Assumes nothing.
 use Rattle.std.specs.Prelude.{ℕ, ◌+◌, ◌*◌, ◌/◌, ◌^◌, ◌≤◌, false, cond, List, map, eqb, pos, Float}
+use Rattle.std.specs.Prelude as std
 use Rattle.std.proofs.Math.Option.{Option, none, some}
 use Rattle.std.specs.Float.{fin}
 use Rattle.model.specs.Lists.{up_from, keep, sum_of}
 use Rattle.model.specs.Figures.{Item, counts, weighted}
 use Rattle.figures.specs.declared.Figure.{Figure}
 use Rattle.figures.specs.declared.Figure.TheVariants.{Percent, Nothing}
-use Rattle.figures.specs.declared.GroupFigure.{GroupFigure}
-use Rattle.figures.specs.declared.GroupFigure.TheVariants.{Millionths, Missing}
 use Rattle.figures.specs.declared.Group.{Group}
 
 -- ---- an item's figure
@@ -28,17 +27,9 @@ present_of Nothing = 0
 
 -- ---- the group's figure
 
-abbrev pub group_case : Option ℕ → GroupFigure
-group_case none = Missing
-group_case (some m) = Millionths m
-
-abbrev pub millionths_of : GroupFigure → ℕ
-millionths_of (Millionths m) = m
-millionths_of Missing = 0
-
-abbrev pub group_present_of : GroupFigure → ℕ
-group_present_of (Millionths m) = 1
-group_present_of Missing = 0
+abbrev pub group_case : Option ℕ → std.Option ℕ
+group_case none = std.None
+group_case (some m) = std.Some m
 
 -- ---- the sums
 

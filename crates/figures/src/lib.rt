@@ -3,9 +3,9 @@
 
 ghost use Rattle.std.specs.Prelude.{◌≡◌, [], ◌∷◌, ◌+◌, ◌≤◌};
 ghost use Rattle.model.specs.Figures.{figure_of};
-ghost use Rattle.figures.specs.Figures.{figure_case, percent_of, present_of, group_case, millionths_of, group_present_of, item, sums, sums_from, AtMostFull, mean};
+ghost use Rattle.figures.specs.Figures.{figure_case, percent_of, present_of, group_case, item, sums, sums_from, AtMostFull, mean};
 
-// An item's coverage as a percentage; nothing where its total is 0.
+// An item's coverage as a percentage; nothing where its total is 0. It is document 01's form, an enum of its own and no Option.
 #[derive(Clone, Copy)]
 pub enum Figure {
     Percent(f64),
@@ -41,31 +41,6 @@ pub fn present(f: Figure) -> u32
     }
 }
 
-// The group's coverage in millionths of a percent; missing where no item counts.
-#[derive(Clone, Copy)]
-pub enum GroupFigure {
-    Millionths(u32),
-    Missing,
-}
-
-pub fn millionths_of(f: GroupFigure) -> u32
-    ensures { result ≡ millionths_of f }
-{
-    match f {
-        GroupFigure::Millionths(m) => m,
-        GroupFigure::Missing => 0,
-    }
-}
-
-pub fn group_present(f: GroupFigure) -> u32
-    ensures { result ≡ group_present_of f }
-{
-    match f {
-        GroupFigure::Millionths(_) => 1,
-        GroupFigure::Missing => 0,
-    }
-}
-
 // Over the items added so far: the sum of their weights, and the sum of their weighted figures.
 #[derive(Clone, Copy)]
 pub struct Group {
@@ -96,15 +71,15 @@ impl Group {
         }
     }
 
-    // The weighted mean, rounded down.
-    pub fn figure(self) -> GroupFigure
+    // The group's coverage in millionths of a percent: the weighted mean, rounded down; none where no item counts.
+    pub fn figure(self) -> Option<u32>
         requires { AtMostFull self }
         ensures { result ≡ group_case (mean self) }
     {
         let weights = self.weights;
         if weights == 0 {
-            return GroupFigure::Missing;
+            return None;
         }
-        GroupFigure::Millionths((self.sum / weights) as u32)
+        Some((self.sum / weights) as u32)
     }
 }

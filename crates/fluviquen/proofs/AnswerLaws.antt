@@ -1,26 +1,25 @@
--- What a C caller reads of a figure is the model's answer.
+-- What a C caller reads of an answer is the model's.
 -- Assumes nothing.
-use mathlib.Core.Path.{◌≡◌, refl}
-use Rattle.figures.specs.Figures.{present_of, percent_of, group_present_of, millionths_of}
+use Rattle.std.proofs.Common.{◌≡◌, ℕ, refl, Result, Ok, Err, Option, Some, None}
+use Rattle.std.specs.Result.{result_unwrap_or}
+use Rattle.figures.specs.Figures.{present_of, percent_of}
 use Rattle.figures.specs.declared.Figure.{Figure}
 use Rattle.figures.specs.declared.Figure.TheVariants.{Percent, Nothing}
-use Rattle.figures.specs.declared.GroupFigure.{GroupFigure}
-use Rattle.figures.specs.declared.GroupFigure.TheVariants.{Millionths, Missing}
-use Rattle.figure_calls.specs.Answers.{item_answer, group_answer}
-use Rattle.fluviquen.specs.Answers.{present_in, percent_in, millionths_in}
+use Rattle.figure_calls.specs.Answers.{item_in, group_in}
+use Rattle.register.specs.Answers.{counted_in}
+use Rattle.refusals.specs.declared.refusal.Refusal.{Refusal}
+use Rattle.fluviquen.specs.Answers.{count_in, present_in, percent_in, millionths_in}
 
-pub item_present : (f : Figure) → present_of f ≡ present_in (item_answer f)
-item_present (Percent p) = refl
-item_present Nothing = refl
+pub count-told : (r : Result ℕ Refusal) → result_unwrap_or r 0 ≡ count_in (counted_in r)
+count-told (Ok n) = refl
+count-told (Err x) = refl
 
-pub item-percent : (f : Figure) → percent_of f ≡ percent_in (item_answer f)
-item-percent (Percent p) = refl
-item-percent Nothing = refl
+pub item_present : (r : Result Figure Refusal) → present_of (result_unwrap_or r Nothing) ≡ present_in (item_in r)
+item_present (Ok (Percent p)) = refl
+item_present (Ok Nothing) = refl
+item_present (Err x) = refl
 
-pub group_present : (f : GroupFigure) → group_present_of f ≡ present_in (group_answer f)
-group_present (Millionths m) = refl
-group_present Missing = refl
-
-pub group-millionths : (f : GroupFigure) → millionths_of f ≡ millionths_in (group_answer f)
-group-millionths (Millionths m) = refl
-group-millionths Missing = refl
+pub item-percent : (r : Result Figure Refusal) → percent_of (result_unwrap_or r Nothing) ≡ percent_in (item_in r)
+item-percent (Ok (Percent p)) = refl
+item-percent (Ok Nothing) = refl
+item-percent (Err x) = refl

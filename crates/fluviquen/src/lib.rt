@@ -7,6 +7,9 @@ ghost use Rattle.table.specs.Check.{section_start};
 ghost use Rattle.turns.specs.Batch.{batch};
 ghost use Rattle.fluviquen.specs.Answers.{count_in, present_in, percent_in, millionths_in};
 
+use figures::{Figure, percent_of};
+use refusals::refusal::number;
+
 // The table's refusal number; the words of a register and of a report, 0 and 0 if it is refused; the byte at fault, 0 if it is accepted or
 // refused with 1.
 #[unsafe(no_mangle)]
@@ -21,11 +24,20 @@ pub extern "C" fn fluviquen_measure(
     ensures illegal_places_after { illegal_places.new ≡ (Model.measure table.now).illegals }
     ensures place_after { place.new ≡ (Model.measure table.now).place }
 {
-    let m = table::measure(table);
-    *words = m.words;
-    *illegal_places = m.illegal_places;
-    *place = m.place;
-    m.number
+    match table::measure(table) {
+        Ok(m) => {
+            *words = m.words;
+            *illegal_places = m.illegal_places;
+            *place = 0;
+            0
+        }
+        Err(fault) => {
+            *words = 0;
+            *illegal_places = 0;
+            *place = fault.at;
+            u32::from(fault.class)
+        }
+    }
 }
 
 // The table's refusal number; where the records of section 1 to 10 stand in it. Length 0 if it is refused, or for another number.
@@ -41,10 +53,18 @@ pub extern "C" fn fluviquen_section(
     ensures table_after { take len.new (drop start.new table.now) ≡ Model.section table.now number }
     ensures len_in_bounds { start.new + len.new ≤ length table.now }
 {
-    let p = table::section_place(table, number);
-    *start = p.start;
-    *len = p.len;
-    p.refusal
+    match table::section_place(table, number) {
+        Ok(part) => {
+            *start = part.from;
+            *len = part.to - part.from;
+            0
+        }
+        Err(fault) => {
+            *start = 0;
+            *len = 0;
+            u32::from(fault.class)
+        }
+    }
 }
 
 // Begins anew: flag 1, all else 0.
@@ -53,7 +73,7 @@ pub extern "C" fn fluviquen_reset(table: &[u8], reg: &mut [u32]) -> u32
     ensures value { result ≡ (Model.call table.now reg.old Model.reset).response.number }
     ensures reg_after { reg.new ≡ (Model.call table.now reg.old Model.reset).words }
 {
-    register::reset(table, reg)
+    number(&register::reset(table, reg))
 }
 
 // Runs a stopped register again: its sequences begin anew.
@@ -62,7 +82,7 @@ pub extern "C" fn fluviquen_start(table: &[u8], reg: &mut [u32]) -> u32
     ensures value { result ≡ (Model.call table.now reg.old Model.start).response.number }
     ensures reg_after { reg.new ≡ (Model.call table.now reg.old Model.start).words }
 {
-    register::start(table, reg)
+    number(&register::start(table, reg))
 }
 
 // Stops a register.
@@ -71,7 +91,7 @@ pub extern "C" fn fluviquen_stop(table: &[u8], reg: &mut [u32]) -> u32
     ensures value { result ≡ (Model.call table.now reg.old Model.stop).response.number }
     ensures reg_after { reg.new ≡ (Model.call table.now reg.old Model.stop).words }
 {
-    register::stop(table, reg)
+    number(&register::stop(table, reg))
 }
 
 // Takes a sample; the report has a word for each illegal counter.
@@ -86,7 +106,7 @@ pub extern "C" fn fluviquen_sample(
     ensures reg_after { reg.new ≡ (Model.call table.now reg.old (Model.sample sample.now report.old)).words }
     ensures report_after { report.new ≡ (Model.call table.now reg.old (Model.sample sample.now report.old)).response.report }
 {
-    batch::sample(table, reg, sample, report)
+    number(&batch::sample(table, reg, sample, report))
 }
 
 // Takes samples in turn, up to the first that is refused: their words stand one after another, and so do their reports.
@@ -105,7 +125,7 @@ pub extern "C" fn fluviquen_samples(
 {
     let a = batch::samples(table, reg, samples, reports);
     *taken = a.taken;
-    a.number
+    number(&a.end)
 }
 
 // A place's count; 0 if refused.
@@ -119,9 +139,9 @@ pub extern "C" fn fluviquen_place_count(
     ensures value { result ≡ (Model.call table.now reg.now (Model.ask_counter place)).response.number }
     ensures count_after { count.new ≡ count_in (Model.call table.now reg.now (Model.ask_counter place)).response.answer }
 {
-    let a = register::place_count(table, reg, place);
-    *count = a.count;
-    a.number
+    let answer = register::place_count(table, reg, place);
+    *count = answer.unwrap_or(0);
+    number(&answer)
 }
 
 // A point's unknown count; 0 if refused.
@@ -135,9 +155,9 @@ pub extern "C" fn fluviquen_unknown_count(
     ensures value { result ≡ (Model.call table.now reg.now (Model.ask_unknown point)).response.number }
     ensures count_after { count.new ≡ count_in (Model.call table.now reg.now (Model.ask_unknown point)).response.answer }
 {
-    let a = register::unknown_count(table, reg, point);
-    *count = a.count;
-    a.number
+    let answer = register::unknown_count(table, reg, point);
+    *count = answer.unwrap_or(0);
+    number(&answer)
 }
 
 // An item's figure in percent; present 0 and percent 0 if there is none.
@@ -153,11 +173,11 @@ pub extern "C" fn fluviquen_item_figure(
     ensures present_after { present.new ≡ present_in (Model.call table.now reg.now (Model.ask_item item)).response.answer }
     ensures percent_after { percent.new ≡ percent_in (Model.call table.now reg.now (Model.ask_item item)).response.answer }
 {
-    let a = figure_calls::item_figure(table, reg, item);
-    let f = a.figure;
-    *present = figures::present(f);
-    *percent = figures::percent_of(f);
-    a.number
+    let answer = figure_calls::item_figure(table, reg, item);
+    let figure = answer.unwrap_or(Figure::Nothing);
+    *present = figures::present(figure);
+    *percent = percent_of(figure);
+    number(&answer)
 }
 
 // The group's figure in millionths of a percent; present 0 and millionths 0 if there is none.
@@ -172,9 +192,9 @@ pub extern "C" fn fluviquen_group_figure(
     ensures present_after { present.new ≡ present_in (Model.call table.now reg.now Model.ask_group).response.answer }
     ensures millionths_after { millionths.new ≡ millionths_in (Model.call table.now reg.now Model.ask_group).response.answer }
 {
-    let a = figure_calls::group_figure(table, reg);
-    let f = a.figure;
-    *present = figures::group_present(f);
-    *millionths = figures::millionths_of(f);
-    a.number
+    let answer = figure_calls::group_figure(table, reg);
+    let figure = answer.unwrap_or(None);
+    *present = u32::from(figure.is_some());
+    *millionths = figure.unwrap_or(0);
+    number(&answer)
 }

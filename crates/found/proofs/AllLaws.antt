@@ -19,6 +19,8 @@ use Rattle.layout.specs.Places.{layout_of, bin_sections_of}
 use Rattle.layout.specs.declared.BinSections.{BinSections}
 use Rattle.arrays.specs.Put.{put}
 use Rattle.arrays.specs.Flat.{covers, Origins, reading_code, reading_codes, Readings}
+use Rattle.arrays.specs.declared.reading.Reading as code
+use Rattle.arrays.specs.declared.reading.Reading.TheVariants.{Skipped}
 use Rattle.arrays.proofs.PutLaws.{part-back, put-zero, put-put, put_same, put-cons, put_in, put-before, part-put, drop-put, length-put}
 use Rattle.parts.specs.Words.{plan_rows_at}
 use Rattle.parts.specs.Point.{RowsOf}
@@ -46,11 +48,11 @@ rows_of_lem t p w from mid cuts to o =
     subst (λ (n : ℕ). RowsOf t p (plan_rows_at (segment w from mid) 0 (n / 7)) (length (covers t p))) (sym long) o.rows_of
 
 -- its reading
-pub code_at : (t : Table) (w a : List ℕ) (p : ℕ) → Readings t w a → p < point_total t → get_or a p 0 ≡ reading_code (reading t w p)
+pub code_at : (t : Table) (w : List ℕ) (a : List code.Reading) (p : ℕ) → Readings t w a → p < point_total t → get_or a p Skipped ≡ reading_code (reading t w p)
 unfolding reading_codes
 code_at t w a p e h =
-    sym (get_or-take (point_total t) a p 0 h) ∙ ap (λ (x : List ℕ). get_or x p 0) e.codes
-    ∙ get_d-row (λ q. reading_code (reading t w q)) 0 (point_total t) p 0 h ∙ ap (λ (q : ℕ). reading_code (reading t w q)) (let z : 0 + p ≡ p = omega arith in z)
+    sym (get_or-take (point_total t) a p Skipped h) ∙ ap (λ (x : List code.Reading). get_or x p Skipped) e.codes
+    ∙ get_d-row (λ q. reading_code (reading t w q)) 0 (point_total t) p Skipped h ∙ ap (λ (q : ℕ). reading_code (reading t w q)) (let z : 0 + p ≡ p = omega arith in z)
 
 pub bins-place : (s : List ℕ) (l : BinSections) → l ≡ bin_sections_of s → l.bins ≡ records_place s 1
 unfolding layout_of

@@ -25,7 +25,10 @@ use Rattle.model.proofs.TableExact.{point_at_lem, read_low, read_high}
 use Rattle.model.proofs.Limits.{covers_fewer}
 use Rattle.model.proofs.Selects.{own_covers}
 use Rattle.arrays.specs.Put.{put}
-use Rattle.arrays.specs.Flat.{covers, reading_code}
+use Rattle.arrays.specs.Flat.{covers, reading_code, reading_from}
+use Rattle.arrays.specs.declared.reading.Reading as code
+use Rattle.arrays.specs.declared.reading.Reading.TheVariants.{Known}
+use Rattle.arrays.proofs.FlatLaws.{from_code}
 use Rattle.arrays.proofs.PutLaws.{put-nil, put-cons}
 use Rattle.spans.specs.Spans.{held_by}
 use Rattle.spans.specs.Point.{SpansOf}
@@ -47,16 +50,6 @@ known_only : (a b : Bool) (x v : ℕ) → cond a (cond b (known x) unknown) skip
 known_only true true x v e = let z : v ≡ x = cc in z
 known_only true false x v e = absurd (let z : ◌≡◌ {A = ℕ} 0 1 = cc in omega arith)
 known_only false b x v e = absurd (let z : ◌≡◌ {A = ℕ} 0 1 = cc in omega arith)
-
-code-known : (r : Reading) (code : ℕ) → code ≡ reading_code r → code < 8589934592 → r ≡ known code
-code-known skipped code e h = absurd (omega arith)
-code-known unknown code e h = absurd (omega arith)
-code-known (known v) code e h = ap known (sym e)
-
-code-none : (r : Reading) (code : ℕ) → code ≡ reading_code r → 8589934592 ≤ code → (r ≡ known code → code < 8589934592) → (f : ℕ → Bool) → is_in f r ≡ false
-code-none skipped code e h k f = refl
-code-none unknown code e h k f = refl
-code-none (known v) code e h k f = absurd (let z : code < 8589934592 = k (ap known (sym e)) in omega arith)
 
 never : (x : Bool) → (x && false) ≡ false
 never true = refl
@@ -111,62 +104,65 @@ module _ (s w : List ℕ) (ok : accepted s ≡ true) (widths : in_widths (table_
       let g = guard_true w (cover_guard T c) in
       ap (λ (q : ℕ). g && is_in (holds T c) (reading T w q)) e ∙ ap (λ (r : Reading). g && is_in (holds T c) r) k ∙ ap (λ (q : ℕ). g && (distributed T c v && not (excluded_value T q v))) e
 
-  module _ (code : ℕ) (ec : code ≡ reading_code (reading (table_of s) w p)) where
+  module _ (x : code.Reading) (ec : x ≡ reading_code (reading (table_of s) w p)) where
     -- no value is read
-    pub none_read : 8589934592 ≤ code → hit_parts (table_of s) w p ≡ []
+    pub none_read : ((f : ℕ → Bool) → is_in f (reading_from x) ≡ false) → hit_parts (table_of s) w p ≡ []
     unfolding cover_hit
     none_read h =
         no_hits (λ c e.
         ap (λ (q : ℕ). guard_true w (cover_guard T c) && is_in (holds T c) (reading T w q)) e
-        ∙ ap (guard_true w (cover_guard T c) &&◌) (code-none (reading T w p) code ec h (λ k. (in_type_lem code k).2) (holds T c))
+        ∙ ap (guard_true w (cover_guard T c) &&◌) (ap (is_in (holds T c)) (sym (ap reading_from ec ∙ from_code (reading T w p))) ∙ h (holds T c))
         ∙ never (guard_true w (cover_guard T c)))
 
-    module _ (h : code < 8589934592) (low : ℕ) (el : low ≡ lowest (point_at (table_of s) p)) where
-      is_known : reading (table_of s) w p ≡ known code
-      is_known = code-known (reading T w p) code ec h
+    module _ (v : ℕ) (ev : x ≡ Known v) (low : ℕ) (el : low ≡ lowest (point_at (table_of s) p)) where
+      is_known : reading (table_of s) w p ≡ known v
+      is_known = sym (ap reading_from (sym ev ∙ ec) ∙ from_code (reading T w p))
 
-      pub low-under : low ≤ code
-      low-under = omega (arith, (in_type_lem code is_known).0)
+      pub known-low : v < 8589934592
+      known-low = (in_type_lem v is_known).2
 
-      module _ (ws : List ℕ) (spans : SpansOf (table_of s) p ws) (b : Bool) (eb : b ≡ held_by ws (code - low)) where
-        excluded-is : excluded_value (table_of s) p code ≡ b
+      pub low-under : low ≤ v
+      low-under = omega (arith, (in_type_lem v is_known).0)
+
+      module _ (ws : List ℕ) (spans : SpansOf (table_of s) p ws) (b : Bool) (eb : b ≡ held_by ws (v - low)) where
+        excluded-is : excluded_value (table_of s) p v ≡ b
         excluded-is =
-            let k = in_type_lem code is_known in
-            let typed : in_type (point_at T p) code ≡ true = ap₂ ◌&&◌ (le-leb (lowest (point_at T p)) code k.0) (le-leb code (highest (point_at T p)) k.1) in
-            sym (spans.exact code typed) ∙ ap (λ (x : ℕ). held_by ws (code - x)) (sym el) ∙ sym eb
+            let k = in_type_lem v is_known in
+            let typed : in_type (point_at T p) v ≡ true = ap₂ ◌&&◌ (le-leb (lowest (point_at T p)) v k.0) (le-leb v (highest (point_at T p)) k.1) in
+            sym (spans.exact v typed) ∙ ap (λ (x : ℕ). held_by ws (v - x)) (sym el) ∙ sym eb
 
         -- the value is excluded
         pub none_left : b ≡ true → hit_parts (table_of s) w p ≡ []
         none_left y =
             no_hits (λ c e.
-            hit_by c e code is_known ∙ ap (λ (x : Bool). guard_true w (cover_guard T c) && (distributed T c code && not x)) (excluded-is ∙ y)
-            ∙ ap (guard_true w (cover_guard T c) &&◌) (never (distributed T c code)) ∙ never (guard_true w (cover_guard T c)))
+            hit_by c e v is_known ∙ ap (λ (y : Bool). guard_true w (cover_guard T c) && (distributed T c v && not y)) (excluded-is ∙ y)
+            ∙ ap (guard_true w (cover_guard T c) &&◌) (never (distributed T c v)) ∙ never (guard_true w (cover_guard T c)))
 
         module _ (no : b ≡ false) (rs : List Row) (of : RowsOf (table_of s) p rs (length (covers (table_of s) p))) (o : List ℕ) (at : OriginsAt (table_of s) p o) (bins : ℕ) (ebs : bins ≡ records_place s 1) where
-          each : (k : ℕ) → k < length (covers (table_of s) p) → one_of k (new_parts (guard_at s w o bins) 0 code rs) ≡ one_of k (hit_parts (table_of s) w p)
+          each : (k : ℕ) → k < length (covers (table_of s) p) → one_of k (new_parts (guard_at s w o bins) 0 v rs) ≡ one_of k (hit_parts (table_of s) w p)
           unfolding hit_parts
           each k i =
               let c = get_or (covers T p) k no_cover_bin in
               let z : 0 + k ≡ k = omega arith in
-              new_one (guard_at s w o bins) code k 0 0 rs (parts_rise (point_at T p) (length (covers T p)) code 0 rs of.fits of.typed of.rises)
-              ∙ ap₂ (λ (x y : Bool). x && (leb 0 k && y)) (of.rule k code i) (guard_exact s w ok p inside o at bins ebs k i)
-              ∙ ap (λ (x : Bool). distributed T c code && (x && guard_true w (cover_guard T c))) (le-leb 0 k (omega arith))
-              ∙ same_tests (distributed T c code) (guard_true w (cover_guard T c))
-              ∙ ap (λ (x : Bool). guard_true w (cover_guard T c) && (distributed T c code && not x)) (sym (excluded-is ∙ no))
-              ∙ sym (hit_by c (all_of (λ c. point_of T c ≡ p) no_cover_bin (covers T p) own k i) code is_known)
+              new_one (guard_at s w o bins) v k 0 0 rs (parts_rise (point_at T p) (length (covers T p)) v 0 rs of.fits of.typed of.rises)
+              ∙ ap₂ (λ (x y : Bool). x && (leb 0 k && y)) (of.rule k v i) (guard_exact s w ok p inside o at bins ebs k i)
+              ∙ ap (λ (x : Bool). distributed T c v && (x && guard_true w (cover_guard T c))) (le-leb 0 k (omega arith))
+              ∙ same_tests (distributed T c v) (guard_true w (cover_guard T c))
+              ∙ ap (λ (y : Bool). guard_true w (cover_guard T c) && (distributed T c v && not y)) (sym (excluded-is ∙ no))
+              ∙ sym (hit_by c (all_of (λ c. point_of T c ≡ p) no_cover_bin (covers T p) own k i) v is_known)
               ∙ sym (one_of-places (cover_hit T w) no_cover_bin 0 k (covers T p) i)
               ∙ ap (λ (x : ℕ). one_of x (places_from (cover_hit T w) 0 (covers T p))) z
 
           -- the parts of its rows
-          pub parts-hit : new_parts (guard_at s w o bins) 0 code rs ≡ hit_parts (table_of s) w p
+          pub parts-hit : new_parts (guard_at s w o bins) 0 v rs ≡ hit_parts (table_of s) w p
           unfolding hit_parts
           parts-hit =
               let m = length (covers T p) in
               let z : 0 + m ≡ m = omega arith in
-              ascending-same 0 m (new_parts (guard_at s w o bins) 0 code rs) (places_from (cover_hit T w) 0 (covers T p))
-              (new_ascending (guard_at s w o bins) code 0 rs)
+              ascending-same 0 m (new_parts (guard_at s w o bins) 0 v rs) (places_from (cover_hit T w) 0 (covers T p))
+              (new_ascending (guard_at s w o bins) v 0 rs)
               (ascending-places (cover_hit T w) 0 (covers T p))
-              (new_all (guard_at s w o bins) code (λ k. k < m) 0 rs (parts_below m code rs of.fits))
+              (new_all (guard_at s w o bins) v (λ k. k < m) 0 rs (parts_below m v rs of.fits))
               (subst (λ (x : ℕ). All (λ k. k < x) (places_from (cover_hit T w) 0 (covers T p))) z (places-below (cover_hit T w) 0 (covers T p)))
               each
 

@@ -1,14 +1,26 @@
 -- The parts of a point (cover bins after expansion, or auto bins) that a value falls into and whose guards hold, each once.
 -- Assumes nothing.
-use Rattle.std.specs.Prelude.{ℕ, ◌+◌, ◌*◌, ◌<◌, ◌≡◌, Bool, ◌&&◌, ◌||◌, cond, List, [], ◌∷◌, ◌++◌, leb, eqb, length, get_or}
+use Rattle.std.specs.Prelude.{ℕ, ◌+◌, ◌*◌, ◌<◌, ◌≡◌, Bool, true, ◌&&◌, ◌||◌, cond, List, [], ◌∷◌, ◌++◌, leb, eqb, length, get_or}
 use Rattle.model.specs.Table.{Table}
-use Rattle.model.specs.Values.{in_range}
-use Rattle.model.specs.Counters.{no_cover_bin}
-use Rattle.model.specs.Sampling.{guard_true}
-use Rattle.model.specs.Format.{byte, guard_from}
-use Rattle.arrays.specs.Flat.{covers, origin}
+use Rattle.model.specs.Values.{in_range, lowest}
+use Rattle.model.specs.Counters.{no_cover_bin, point_at}
+use Rattle.model.specs.Sampling.{guard_true, reading}
+use Rattle.model.specs.Format.{byte, guard_from, accepted, table_of}
+use Rattle.model.specs.Raw.{records_place}
+use Rattle.model.specs.Register.{point_total, in_widths}
+use Rattle.arrays.specs.Flat.{covers, origin, reading_code}
 use Rattle.parts.specs.Rows.{Row, part_in}
 use Rattle.places.specs.Places.{place_if}
+use Rattle.found.specs.declared.PointReading.{PointReading}
+
+-- r is what the sample w reads of a point of the accepted table s
+pub record Reads (s w : List ℕ) (r : PointReading) : Type 0 where
+  pub good : accepted s ≡ true
+  pub own : r.point < point_total (table_of s)
+  pub widths : in_widths (table_of s) w ≡ true
+  pub code : r.reading ≡ reading_code (reading (table_of s) w r.point)
+  pub low : r.low ≡ lowest (point_at (table_of s) r.point)
+  pub bins : r.bins ≡ records_place s 1
 
 -- the array has the origin of each cover bin of point p
 unfoldable pub OriginsAt : Table → ℕ → List ℕ → Type 0

@@ -1,45 +1,27 @@
 // Which cover bins of a point a sample hits, from the point's rows and excluded spans. A part is a cover bin after expansion, or an auto bin.
 #![tactic(auto)]
 
-ghost use Rattle.std.specs.Prelude.{◌≡◌, true, ◌∷◌, ◌+◌, ◌/◌, ◌≤◌, ◌<◌, length};
-ghost use Rattle.model.specs.Values.{lowest, in_range};
-ghost use Rattle.model.specs.Counters.{point_at};
-ghost use Rattle.model.specs.Sampling.{reading};
-ghost use Rattle.model.specs.Format.{accepted, table_of};
-ghost use Rattle.model.specs.Raw.{records_place};
-ghost use Rattle.model.specs.Register.{point_total, in_widths};
+ghost use Rattle.std.specs.Prelude.{◌≡◌, ◌∷◌, ◌+◌, ◌/◌, ◌≤◌, ◌<◌, length};
+ghost use Rattle.model.specs.Format.{table_of};
 ghost use Rattle.model.proofs.Readers.{All};
 ghost use Rattle.arrays.specs.Put.{put};
-ghost use Rattle.arrays.specs.Flat.{covers, reading_code};
+ghost use Rattle.arrays.specs.Flat.{covers};
 ghost use Rattle.spans.specs.Point.{SpansOf};
 ghost use Rattle.parts.specs.Rows.{place_in, part_in};
 ghost use Rattle.parts.specs.Words.{range_at, RowFits, plan_row_at, plan_rows_at};
 ghost use Rattle.parts.specs.Point.{RowsOf};
 ghost use Rattle.places.specs.Places.{hit_parts};
-ghost use Rattle.found.specs.Found.{OriginsAt, guard_at, new_part, next_part, new_parts};
+ghost use Rattle.found.specs.Found.{Reads, OriginsAt, guard_at, new_part, next_part, new_parts};
 
 use arrays::element;
-use ranges::next::{capped, less};
+use arrays::reading::Reading;
+use ranges::member::holds;
+use ranges::next::capped;
 use spans::lookup::inside;
 use values::fields::guard_true;
 use words::bytes::byte;
 
 pub mod all;
-
-// The row at at holds the value.
-fn row_holds(rows: &[u64], at: usize, v: u64) -> bool
-    requires { at + 7 ≤ length rows.now }
-    ensures { result ≡ in_range (range_at rows.now at) v }
-{
-    let kind = rows[at];
-    let a = rows[at + 1];
-    let b = rows[at + 2];
-    if kind == 0 {
-        (a <= v) & (v <= b)
-    } else {
-        less(v, 2147483648) & b == a
-    }
-}
 
 // Where the value stands in the row's range.
 fn place(rows: &[u64], at: usize, v: u64) -> u64
@@ -50,7 +32,7 @@ fn place(rows: &[u64], at: usize, v: u64) -> u64
     if kind != 0 {
         return 0;
     }
-    less(v, rows[at + 1])
+    v.saturating_sub(rows[at + 1])
 }
 
 // The part of a value that the row holds.
@@ -67,6 +49,7 @@ fn part(rows: &[u64], at: usize, v: u64) -> u64
 }
 
 // The guard of the value bin holds that part k comes of; the value bins stand from bins on.
+// 65,535, for an auto bin, is no Option: origins are 16-bit elements of one array (fixed memory).
 fn guard_holds(origins: &[u16], t: &[u8], sample: &[u32], bins: usize, k: usize) -> bool
     requires { bins < 1000000000 }
     ensures { result ≡ guard_at t.now sample.now origins.now bins k }
@@ -110,7 +93,8 @@ fn put_part(
     ensures found_after { found.new ≡ put c.at (new_part (guard_at t.now sample.now origins.now v.bins) c.next v.value (plan_row_at rows.now v.row)) found.old }
 {
     let at = c.at;
-    if !row_holds(rows, v.row, v.value) {
+    let row = v.row;
+    if !holds(rows[row], rows[row + 1], rows[row + 2], v.value) {
         return c;
     }
     let k = part(rows, v.row, v.value) as usize;
@@ -142,29 +126,23 @@ fn put_parts(
     ensures { (result ≡ length (new_parts (guard_at t.now sample.now origins.now bins) 0 value (plan_rows_at rows.now 0 (length rows.now / 7)))) × (found.new ≡ put 1 (new_parts (guard_at t.now sample.now origins.now bins) 0 value (plan_rows_at rows.now 0 (length rows.now / 7))) found.old) }
 {
     let n = rows.len() / 7;
-    let mut at = 1;
-    let mut next = 0;
-    let mut i = 0;
-    while i < n {
+    let mut c = Cursor { at: 1, next: 0 };
+    for i in 0..n {
         let v = Known {
-            value: value,
-            bins: bins,
+            value,
+            bins,
             row: 7 * i,
         };
-        let c = Cursor { at: at, next: next };
-        let e = put_part(found, rows, origins, t, sample, v, c);
-        at = e.at;
-        next = e.next;
-        i += 1;
+        c = put_part(found, rows, origins, t, sample, v, c);
     }
-    at - 1
+    c.at - 1
 }
 
-// The reading of a point, as a number; the lowest value of the point's type, and where the value bins stand.
+// The reading of a point; the lowest value of the point's type, and where the value bins stand.
 #[derive(Clone, Copy)]
 pub struct PointReading {
     pub point: usize,
-    pub code: u64,
+    pub reading: Reading,
     pub low: u64,
     pub bins: usize,
 }
@@ -179,14 +157,14 @@ fn put_hit(
     sample: &[u32],
     r: PointReading,
 ) -> usize
-    requires t_value { (accepted t.now ≡ true) × (r.point < point_total (table_of t.now)) × (in_widths (table_of t.now) sample.now ≡ true) × (r.code ≡ reading_code (reading (table_of t.now) sample.now r.point)) × (r.low ≡ lowest (point_at (table_of t.now) r.point)) × (r.bins ≡ records_place t.now 1) × (257 ≤ length found.old) }
+    requires reading { Reads t.now sample.now r }
+    requires room { 257 ≤ length found.old }
     requires rows_of { RowsOf (table_of t.now) r.point (plan_rows_at rows.now 0 (length rows.now / 7)) (length (covers (table_of t.now) r.point)) × SpansOf (table_of t.now) r.point spans.now × OriginsAt (table_of t.now) r.point origins.now }
     ensures { (result ≡ length (hit_parts (table_of t.now) sample.now r.point)) × (result ≤ 256) × (found.new ≡ put 1 (hit_parts (table_of t.now) sample.now r.point) found.old) }
 {
-    let v = r.code;
-    if 8589934592 <= v {
+    let Reading::Known(v) = r.reading else {
         return 0;
-    }
+    };
     if inside(spans, v - r.low) {
         return 0;
     }
@@ -203,7 +181,8 @@ pub fn put_found(
     sample: &[u32],
     r: PointReading,
 )
-    requires t_value { (accepted t.now ≡ true) × (r.point < point_total (table_of t.now)) × (in_widths (table_of t.now) sample.now ≡ true) × (r.code ≡ reading_code (reading (table_of t.now) sample.now r.point)) × (r.low ≡ lowest (point_at (table_of t.now) r.point)) × (r.bins ≡ records_place t.now 1) × (257 ≤ length found.old) }
+    requires reading { Reads t.now sample.now r }
+    requires room { 257 ≤ length found.old }
     requires rows_of { RowsOf (table_of t.now) r.point (plan_rows_at rows.now 0 (length rows.now / 7)) (length (covers (table_of t.now) r.point)) × SpansOf (table_of t.now) r.point spans.now × OriginsAt (table_of t.now) r.point origins.now }
     ensures { found.new ≡ put 0 (length (hit_parts (table_of t.now) sample.now r.point) ∷ hit_parts (table_of t.now) sample.now r.point) found.old }
 {

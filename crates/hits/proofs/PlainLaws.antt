@@ -5,6 +5,7 @@ use mathlib.Core.Bool.{Bool, true, false, not, ◌&&◌, cond}
 use mathlib.Core.List.{List, [], ◌++◌}
 use Prim.Native.Nat.{ℕ, zero, suc, ◌+◌, ◌-◌, ◌*◌, ◌≤◌, ◌<◌}
 use native.Mathlib.Omega.{arith}
+use mir.Val.{bool_byte}
 use lib.Dec.{leb, eqb}
 use lib.ListN.{get_or}
 use borrow.Author.Tests.{le-leb}
@@ -22,9 +23,6 @@ plain-kind zero = refl
 plain-kind (suc zero) = refl
 plain-kind (suc (suc zero)) = refl
 plain-kind (suc (suc (suc k))) = sym (le-leb 2 (suc (suc (suc k))) (omega arith))
-
-pub plain_test : (s : List ℕ) (a r p q k : ℕ) → q ≡ byte s a → k ≡ byte s (a + 1) → (eqb q p && leb 2 k) ≡ is_plain_bin p (bin_at s a r)
-plain_test s a r p q k eq ek = ap₂ (λ (x y : ℕ). eqb x p && leb 2 y) eq ek ∙ ap (eqb (byte s a) p &&◌) (sym (plain-kind (byte s (a + 1))))
 
 module _ (w : List ℕ) (p v : ℕ) (l : Bool) (s : List ℕ) (a r : ℕ) (b : Bool) (own : b ≡ is_plain_bin p (bin_at s a r)) where
   pub not_plain : b ≡ false → false ≡ plain_hit w p v l (bin_at s a r)
@@ -71,3 +69,13 @@ module _ (w : List ℕ) (p v : ℕ) (l : Bool) (ps s : List ℕ) (a : ℕ) where
   pub plains_end : (r n i j : ℕ) → n ≤ i → plain_hits w p v l ps j (bins_at s (a + 8 * i) r (n - i)) ≡ []
   unfolding plain_hits
   plains_end r n i j h = ap (plain_hits w p v l ps j) (bins_end s a r n i h)
+
+-- ---- a bool as a number
+
+pub one_if : (b : Bool) → bool_byte b ≡ cond b 1 0
+one_if true = refl
+one_if false = refl
+
+pub one_most : (b : Bool) → bool_byte b ≤ 1
+one_most true = omega arith
+one_most false = omega arith

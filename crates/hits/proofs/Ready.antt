@@ -1,37 +1,37 @@
 -- What the calls ask for and write, for a point of an accepted table.
 -- Assumes nothing.
 use mathlib.Core.Path.{◌≡◌, refl, sym, ap, ◌∙◌}
-use mathlib.Core.Bool.{Bool, true, false, ◌||◌, cond}
+use mathlib.Core.Bool.{Bool, true, false, cond}
 use mathlib.Core.List.{List, [], ◌∷◌, ◌++◌}
 use Prim.Native.Nat.{ℕ, zero, suc, ◌+◌, ◌-◌, ◌^◌, ◌≤◌, ◌<◌}
 use native.Mathlib.Omega.{arith}
-use lib.Dec.{leb, eqb}
+use lib.Dec.{eqb}
 use lib.ListN.{length, get_or, take, drop, replicate, length-append, length-map, length-take, length-drop}
 use lib.Seq.{get_or-take, get_or-drop}
-use borrow.Author.Tests.{eqb-true, leb-true, leb-false}
 use Rattle.model.specs.Lists.{as_bit}
 use Rattle.model.specs.Table.{ValueBin, TransitionBin, Kind, cover, ignore, illegal, default, Table}
 use Rattle.model.specs.Counters.{Counter, listed_value, value_counters, auto_counters, transition_counter, transition_counters, point_counters}
-use Rattle.model.specs.Sampling.{reading, Stretches, cover_hit, hits}
+use Rattle.model.specs.Sampling.{reading, is_in, is_skipped, Stretches, cover_hit, hits}
 use Rattle.model.specs.Format.{accepted, table_of}
 use Rattle.model.specs.Raw.{bins_at}
 use Rattle.model.specs.Register.{point_total, in_widths, run_stretches}
 use Rattle.model.proofs.Readers.{All}
-use Rattle.model.proofs.Booleans.{or-false-right}
 use Rattle.model.proofs.Sections.{accepted_decodes}
 use Rattle.model.proofs.RawExact.{few_points}
 use Rattle.layout.specs.declared.Layout.{Layout}
 use Rattle.layout.specs.Places.{layout_of}
 use Rattle.arrays.specs.Put.{put}
 use Rattle.arrays.proofs.PutLaws.{front-put}
-use Rattle.arrays.specs.Flat.{hit_flags, covers, point_start, reading_code}
+use Rattle.arrays.specs.Flat.{hit_flags, covers, point_start, reading_code, reading_from}
+use Rattle.arrays.specs.declared.reading.Reading as code
+use Rattle.arrays.specs.declared.reading.Reading.TheVariants.{Known}
 use Rattle.values.specs.Listed.{listed_in}
 use Rattle.values.proofs.PointExact.{bins_raw, few_counters}
 use Rattle.places.specs.Places.{places_from, is_set, hit_parts}
 use Rattle.places.proofs.PlaceLaws.{places-map, places-agree, places-few, places-below}
 use Rattle.points.specs.Hits.{value_hits, transition_hits}
 use Rattle.points.specs.Transitions.{transition_flags}
-use Rattle.points.proofs.ValueLaws.{code-known, in_type_lem, hits-none}
+use Rattle.points.proofs.ValueLaws.{code-known, hits-none}
 use Rattle.points.proofs.TransitionExact.{transition-hits}
 use Rattle.points.proofs.AllLaws.{skip_code, few_bins}
 use Rattle.points.proofs.KindExact.{start_low}
@@ -107,31 +107,27 @@ module _ (s w : List ℕ) (ok : accepted s ≡ true) (p : ℕ) (inside : p < poi
       let cs = value_counters t p 0 t.value_bins ++ auto_counters t p in
       omega (arith, places-few (hits t w (run_stretches [])) (point_start t p) cs, counters_few, length-append cs (transition_counters p 0 t.transition_bins))
 
-  module _ (widths : in_widths (table_of s) w ≡ true) (code : ℕ) (is : code ≡ reading_code (reading (table_of s) w p)) where
-    unread : 8589934592 ≤ code → value_places (table_of s) w p ≡ []
+  module _ (widths : in_widths (table_of s) w ≡ true) (x : code.Reading) (is : x ≡ reading_code (reading (table_of s) w p)) where
+    pub no-value-hit : ((f : ℕ → Bool) → is_in f (reading_from x) ≡ false) → value_places (table_of s) w p ≡ []
     unfolding value_places value_hits
-    unread h =
+    no-value-hit h =
         let t = table_of s in
         let cs = value_counters t p 0 t.value_bins ++ auto_counters t p in
         sym (flag-places t w (run_stretches []) (point_start t p) cs)
-        ∙ ap (places_from is_set (point_start t p)) (hits-none s w ok widths p inside (layout_of s) refl code is h)
+        ∙ ap (places_from is_set (point_start t p)) (hits-none t w p x is h)
         ∙ no-flags (point_start t p) (length (value_hits t w p))
 
     module _ (none : length (hit_parts (table_of s) w p) ≡ 0) (a : List ℕ) (plains : PlainsOf (table_of s) p a) where
-      pub nothing_hit : (eqb (length a) 0 || leb 8589934592 code) ≡ true → value_places (table_of s) w p ≡ []
-      nothing_hit e = go (eqb (length a) 0) refl e
-        where
-          go : (b : Bool) → eqb (length a) 0 ≡ b → (b || leb 8589934592 code) ≡ true → value_places (table_of s) w p ≡ []
-          go true z e = value-bare (table_of s) w p none a plains (eqb-true (length a) 0 z)
-          go false z e = unread (leb-true 8589934592 code e)
+      pub bare-hit : length a ≡ 0 → value_places (table_of s) w p ≡ []
+      bare-hit e = value-bare (table_of s) w p none a plains e
 
-      pub plains-hit : (eqb (length a) 0 || leb 8589934592 code) ≡ false → (l : Layout) → l ≡ layout_of s
-          → value_places (table_of s) w p ≡ plain_hits w p code (listed_in p code (bins_at s l.bins l.ranges l.bin_count)) a 0 (bins_at s l.bins l.ranges l.bin_count)
+      pub plains-hit : (v : ℕ) → x ≡ Known v → (l : Layout) → l ≡ layout_of s
+          → value_places (table_of s) w p ≡ plain_hits w p v (listed_in p v (bins_at s l.bins l.ranges l.bin_count)) a 0 (bins_at s l.bins l.ranges l.bin_count)
       unfolding layout_of listed_in listed_value
-      plains-hit e l z =
-          value-plain (table_of s) w p none code (code-known (reading (table_of s) w p) code is (leb-false 8589934592 code (or-false-right (eqb (length a) 0) (leb 8589934592 code) e))) a plains
-          ∙ ap (λ (bs : List ValueBin). plain_hits w p code (listed_in p code bs) a 0 bs) (bins_raw s (table_of s) (accepted_decodes s ok) p inside)
-          ∙ sym (ap (λ (x : Layout). plain_hits w p code (listed_in p code (bins_at s x.bins x.ranges x.bin_count)) a 0 (bins_at s x.bins x.ranges x.bin_count)) z)
+      plains-hit v e l z =
+          value-plain (table_of s) w p none v (code-known (reading (table_of s) w p) v (sym e ∙ is)) a plains
+          ∙ ap (λ (bs : List ValueBin). plain_hits w p v (listed_in p v bs) a 0 bs) (bins_raw s (table_of s) (accepted_decodes s ok) p inside)
+          ∙ sym (ap (λ (x : Layout). plain_hits w p v (listed_in p v (bins_at s x.bins x.ranges x.bin_count)) a 0 (bins_at s x.bins x.ranges x.bin_count)) z)
 
 -- ---- its transition bins
 
@@ -147,24 +143,24 @@ few_transitions p b (u ∷ us) = omega (arith, length-append (cond (eqb u.point 
     go true illegal = omega arith
     go true default = omega arith
 
-module _ (s w lens : List ℕ) (ok : accepted s ≡ true) (widths : in_widths (table_of s) w ≡ true) (words : (j : ℕ) → get_or lens j 0 < 2 ^ 32) (p : ℕ) (inside : p < point_total (table_of s)) (l : Layout) (e : l ≡ layout_of s) (code : ℕ) (is : code ≡ reading_code (reading (table_of s) w p)) where
-  flags_are : transition_flags s w lens p (eqb code 8589934592) l.transitions l.transition_count ≡ transition_hits (table_of s) w (take (length (table_of s).transition_bins) lens) p
+module _ (s w lens : List ℕ) (ok : accepted s ≡ true) (widths : in_widths (table_of s) w ≡ true) (words : (j : ℕ) → get_or lens j 0 < 2 ^ 32) (p : ℕ) (inside : p < point_total (table_of s)) (l : Layout) (e : l ≡ layout_of s) (x : code.Reading) (is : x ≡ reading_code (reading (table_of s) w p)) where
+  flags_are : transition_flags s w lens p (is_skipped (reading_from x)) l.transitions l.transition_count ≡ transition_hits (table_of s) w (take (length (table_of s).transition_bins) lens) p
   flags_are =
-      ap (λ (b : Bool). transition_flags s w lens p b l.transitions l.transition_count) (skip_code (reading (table_of s) w p) code is (λ k. (in_type_lem s w ok widths p inside code k).2))
+      ap (λ (b : Bool). transition_flags s w lens p b l.transitions l.transition_count) (skip_code (reading (table_of s) w p) x is)
       ∙ sym (transition-hits s w lens ok words p l e)
 
-  flags_length : length (transition_flags s w lens p (eqb code 8589934592) l.transitions l.transition_count) ≡ length (transition_counters p 0 (table_of s).transition_bins)
+  flags_length : length (transition_flags s w lens p (is_skipped (reading_from x)) l.transitions l.transition_count) ≡ length (transition_counters p 0 (table_of s).transition_bins)
   unfolding transition_hits hit_flags
   flags_length = ap length flags_are ∙ length-map (transition_counters p 0 (table_of s).transition_bins) (λ c. as_bit (hits (table_of s) w (run_stretches (take (length (table_of s).transition_bins) lens)) c))
 
-  pub flags_few : length (transition_flags s w lens p (eqb code 8589934592) l.transitions l.transition_count) ≤ 64
+  pub flags_few : length (transition_flags s w lens p (is_skipped (reading_from x)) l.transitions l.transition_count) ≤ 64
   flags_few = omega (arith, flags_length, few_transitions p 0 (table_of s).transition_bins, few_bins s w lens ok widths words p inside)
 
   -- from where the point's counters end, back by the number of flags
-  pub base_is : (end n : ℕ) → end ≡ transition_start (table_of s) p + length (transition_counters p 0 (table_of s).transition_bins) → n ≡ 0 + length (transition_flags s w lens p (eqb code 8589934592) l.transitions l.transition_count) → (n ≤ end) × (end - n ≡ transition_start (table_of s) p)
+  pub base_is : (end n : ℕ) → end ≡ transition_start (table_of s) p + length (transition_counters p 0 (table_of s).transition_bins) → n ≡ 0 + length (transition_flags s w lens p (is_skipped (reading_from x)) l.transitions l.transition_count) → (n ≤ end) × (end - n ≡ transition_start (table_of s) p)
   base_is end n e z = (omega (arith, flags_length), omega (arith, flags_length))
 
-  pub places_small : transition_start (table_of s) p + length (transition_flags s w lens p (eqb code 8589934592) l.transitions l.transition_count) ≤ 65535
+  pub places_small : transition_start (table_of s) p + length (transition_flags s w lens p (is_skipped (reading_from x)) l.transitions l.transition_count) ≤ 65535
   unfolding transition_start point_counters
   places_small =
       let t = table_of s in
@@ -172,12 +168,12 @@ module _ (s w lens : List ℕ) (ok : accepted s ≡ true) (widths : in_widths (t
       let ts = transition_counters p 0 t.transition_bins in
       omega (arith, flags_length, length-append (vs ++ auto_counters t p) ts, length-append vs (auto_counters t p), few_counters s t (accepted_decodes s ok) p inside, start_low s ok p (omega arith), few_points s ok)
 
-  pub transitions_hit : (n : ℕ) (flags : List ℕ) → n ≡ 0 + length (transition_flags s w lens p (eqb code 8589934592) l.transitions l.transition_count) → 64 ≤ length flags
-      → places_from is_set (transition_start (table_of s) p) (take n (put 0 (transition_flags s w lens p (eqb code 8589934592) l.transitions l.transition_count) flags))
+  pub transitions_hit : (n : ℕ) (flags : List ℕ) → n ≡ 0 + length (transition_flags s w lens p (is_skipped (reading_from x)) l.transitions l.transition_count) → 64 ≤ length flags
+      → places_from is_set (transition_start (table_of s) p) (take n (put 0 (transition_flags s w lens p (is_skipped (reading_from x)) l.transitions l.transition_count) flags))
       ≡ transition_places (table_of s) w (take (length (table_of s).transition_bins) lens) p
   unfolding transition_places transition_hits
   transitions_hit n flags z room =
       let t = table_of s in
-      let xs = transition_flags s w lens p (eqb code 8589934592) l.transitions l.transition_count in
+      let xs = transition_flags s w lens p (is_skipped (reading_from x)) l.transitions l.transition_count in
       ap (places_from is_set (transition_start t p)) (front-put n xs flags (omega arith) (omega (arith, flags_few)) ∙ flags_are)
       ∙ flag-places t w (run_stretches (take (length t.transition_bins) lens)) (transition_start t p) (transition_counters p 0 t.transition_bins)

@@ -1,10 +1,9 @@
 -- Where no bin has a matched length, no transition bin is hit.
 -- Assumes nothing.
 use mathlib.Core.Path.{◌≡◌, refl, sym, ap, ap₂, ◌∙◌, subst, fun_ext}
-use mathlib.Core.Bool.{Bool, true, false, not, ◌&&◌, ◌||◌, and-false, or-false, or_assoc}
+use mathlib.Core.Bool.{Bool, false, not, ◌&&◌, ◌||◌, and-false, or-false, or_assoc}
 use mathlib.Core.List.{List, [], ◌∷◌, ◌++◌}
 use Prim.Native.Nat.{ℕ, zero, suc, ◌+◌, ◌-◌, ◌≤◌, ◌<◌}
-use native.Mathlib.Omega.{arith}
 use lib.Dec.{eqb}
 use lib.ListN.{length, get_or, take, drop, drop_of_length-le}
 use borrow.Author.Tests.{eqb-true, not-false}
@@ -12,17 +11,15 @@ use Rattle.model.specs.Lists.{up_from, any, bit}
 use Rattle.model.specs.Table.{Table}
 use Rattle.model.specs.Counters.{Counter, value_bin, default_bin, illegal_bin, transition, illegal_transition, cross_bin, illegal_cross, product, transition_bin_at, transition_counters}
 use Rattle.model.specs.Sampling.{Stretches, transition_guards, excluded_match, hits}
-use Rattle.model.specs.Format.{u16, accepted, table_of}
-use Rattle.model.specs.Raw.{count_place, record_count}
-use Rattle.model.specs.Register.{point_total, run_stretches}
+use Rattle.model.specs.Register.{run_stretches}
 use Rattle.model.proofs.Readers.{all_map}
 use Rattle.model.proofs.Booleans.{or-false-left, or-false-right}
 use Rattle.model.proofs.Lists.{head_tail, any_none}
 use Rattle.model.proofs.RunBits.{bit-zero}
-use Rattle.model.proofs.RawExact.{many_points, few_points}
 use Rattle.arrays.specs.Put.{put}
 use Rattle.arrays.specs.Flat.{all_point_counters}
 use Rattle.arrays.proofs.Written.{Written}
+use Rattle.places.specs.Places.{places_from}
 use Rattle.places.proofs.PlaceLaws.{places-none}
 use Rattle.points.proofs.Counted.{TransitionOf, all_transitions}
 use Rattle.hits.specs.Places.{value_places, transition_start, transition_places, any_length, all_places}
@@ -78,14 +75,19 @@ module _ (t : Table) (w : List ℕ) (p : ℕ) where
       places-none (hits t w (run_stretches [])) (transition_start t p) (transition_counters p 0 t.transition_bins)
       (all_map (TransitionOf t p) (λ c. hits t w (run_stretches []) c ≡ false) none_hit (transition_counters p 0 t.transition_bins) (all_transitions t p))
 
+-- as they are read, n of them
+pub no_transitions : (t : Table) (w : List ℕ) (p n : ℕ) (lens : List ℕ) → any_length lens ≡ false → transition_places t w (take n lens) p ≡ []
+unfolding transition_places
+no_transitions t w p n lens e =
+    ap (λ (m : Stretches). places_from (hits t w m) (transition_start t p) (transition_counters p 0 t.transition_bins)) (no_stretch n lens e)
+    ∙ no_transition t w p
+
 -- ---- point after point
 
-pub points_read : (s : List ℕ) → accepted s ≡ true → (n : ℕ) → n ≡ u16 s 0 → (n ≡ point_total (table_of s)) × (n ≤ 16)
-unfolding record_count count_place
-points_read s ok n e = let z : n ≡ point_total (table_of s) = e ∙ sym (many_points s ok) in (z, omega (arith, few_points s ok))
-
-pub unmatched-turn : (t : Table) (w l₀ : List ℕ) → length (all_point_counters t) + 256 ≤ length l₀ → (n i at : ℕ) (l : List ℕ) → Written 0 (all_places t w (run_stretches [])) l₀ at l (places_after t w [] i (n - i)) → i < n
-    → (at₁ : ℕ) (l₁ : List ℕ) → at₁ ≡ at + length (value_places t w i) → l₁ ≡ put at (value_places t w i) l → Written 0 (all_places t w (run_stretches [])) l₀ at₁ l₁ (places_after t w [] (i + 1) (n - (i + 1)))
-unmatched-turn t w l₀ room n i at l inv h at₁ l₁ e₁ w₁ =
-    subst (λ (xs : List ℕ). Written 0 (all_places t w (run_stretches [])) l₀ at₁ l₁ (xs ++ places_after t w [] (i + 1) (n - (i + 1)))) (no_transition t w i)
-    (values-turn t w [] l₀ room n i at l inv h at₁ l₁ e₁ w₁)
+pub unmatched-turn : (t : Table) (w lens l₀ : List ℕ) → length (all_point_counters t) + 256 ≤ length l₀ → (n i at : ℕ) (l : List ℕ)
+    → Written 0 (all_places t w (run_stretches lens)) l₀ at l (places_after t w lens i (n - i)) → i < n → transition_places t w lens i ≡ []
+    → (at₁ : ℕ) (l₁ : List ℕ) → at₁ ≡ at + length (value_places t w i) → l₁ ≡ put at (value_places t w i) l
+    → Written 0 (all_places t w (run_stretches lens)) l₀ at₁ l₁ (places_after t w lens (i + 1) (n - (i + 1)))
+unmatched-turn t w lens l₀ room n i at l inv h none at₁ l₁ e₁ w₁ =
+    subst (λ (xs : List ℕ). Written 0 (all_places t w (run_stretches lens)) l₀ at₁ l₁ (xs ++ places_after t w lens (i + 1) (n - (i + 1)))) none
+    (values-turn t w lens l₀ room n i at l inv h at₁ l₁ e₁ w₁)

@@ -9,6 +9,7 @@ ghost use Rattle.hits.specs.Places.{value_places, FoundOf, PlacesOf, PlainsOf};
 
 use crate::covers::put_found;
 use crate::plains::put_plain_hits;
+use arrays::reading::Reading;
 use layout::layout_of;
 use points::readings::PointReading;
 
@@ -22,7 +23,7 @@ pub fn put_value_hits(
     plains: &[u16],
     own: PointReading,
 ) -> usize
-    requires t_value { (accepted t.now ≡ true) × (in_widths (table_of t.now) sample.now ≡ true) × (own.point < point_total (table_of t.now)) × (own.code ≡ reading_code (reading (table_of t.now) sample.now own.point)) × (256 ≤ length hits.old) }
+    requires t_value { (accepted t.now ≡ true) × (in_widths (table_of t.now) sample.now ≡ true) × (own.point < point_total (table_of t.now)) × (own.reading ≡ reading_code (reading (table_of t.now) sample.now own.point)) × (256 ≤ length hits.old) }
     requires in_bounds { (1 ≤ length found.now) × FoundOf (table_of t.now) sample.now own.point found.now × (length (covers (table_of t.now) own.point) ≤ length places.now) × PlacesOf (table_of t.now) own.point places.now × PlainsOf (table_of t.now) own.point plains.now }
     ensures { (result ≡ length (value_places (table_of t.now) sample.now own.point)) × (hits.new ≡ put 0 (value_places (table_of t.now) sample.now own.point) hits.old) }
 {
@@ -30,10 +31,12 @@ pub fn put_value_hits(
     if n != 0 {
         return put_found(hits, found, places, n);
     }
-    let code = own.code;
-    if (plains.len() == 0) | (8589934592 <= code) {
+    if plains.is_empty() {
         return 0;
     }
+    let Reading::Known(value) = own.reading else {
+        return 0;
+    };
     let l = layout_of(t);
-    put_plain_hits(hits, t, l, sample, plains, own)
+    put_plain_hits(hits, t, l, sample, plains, own.point, value)
 }

@@ -8,11 +8,9 @@ pub fn put_found(hits: &mut [u16], found: &[u16], places: &[u16], n: usize) -> u
     requires { (n ≤ length hits.old) × (n < length found.now) × (n ≤ 65535) × Inside found.now n (length places.now) }
     ensures { (result ≡ n) × (hits.new ≡ put 0 (elements_at places.now (take n (drop 1 found.now))) hits.old) }
 {
-    let mut i = 0;
-    while i < n {
+    for i in 0..n {
         let k = found[1 + i] as usize;
         hits[i] = places[k];
-        i += 1;
     }
     n
 }

@@ -1,17 +1,18 @@
 // The places of the default bins and illegal bins that are hit.
-ghost use Rattle.std.specs.Prelude.{◌≡◌, cond, ◌<◌, ◌≤◌, ◌+◌, length, get_or};
+ghost use Rattle.std.specs.Prelude.{◌≡◌, ◌<◌, ◌≤◌, ◌+◌, length};
 ghost use Rattle.model.specs.Raw.{bin_at, bins_at};
 ghost use Rattle.arrays.specs.Put.{put};
 ghost use Rattle.values.specs.Listed.{listed_in};
 ghost use Rattle.hits.specs.Plains.{is_plain_bin, plain_hit, plain_hits};
 
+use arrays::element;
 use layout::Layout;
 use places::put_if;
-use points::readings::PointReading;
 use ranges::member::in_ranges;
 use values::bins::listed;
 use values::fields::guard_true;
 use words::bytes::{byte, read2};
+use words::kinds::Kind;
 
 // The number of a point, its value in a sample, and whether a bin of the point lists it.
 #[derive(Clone, Copy)]
@@ -21,31 +22,14 @@ struct ListedValue {
     listed: bool,
 }
 
-// An element of an array; past its end 0.
-fn place_at(places: &[u16], i: usize) -> usize
-    ensures { (result ≡ get_or places.now i 0) × (result ≤ 65535) }
-{
-    if i < places.len() {
-        places[i] as usize
-    } else {
-        0
-    }
-}
-
 // The bin at a is a plain bin of point p.
 fn is_plain(t: &[u8], a: usize, r: usize, p: u8) -> bool
     requires { (a < 2000000000) × (r < 2000000000) }
     ensures { result ≡ is_plain_bin p (bin_at t.now a r) }
 {
     let q = byte(t, a);
-    let kind = byte(t, a + 1);
-    (q == p) & (2 <= kind)
-}
-
-fn one_if(b: bool) -> usize
-    ensures { (result ≡ cond b 1 0) × (result ≤ 1) }
-{
-    if b { 1 } else { 0 }
+    let kind = Kind::from(byte(t, a + 1));
+    (q == p) & matches!(kind, Kind::Illegal | Kind::Default)
 }
 
 // The bin at a, its ranges from r on, is a plain bin of the point, as own says, and has the value.
@@ -56,10 +40,10 @@ fn plain_hit(t: &[u8], a: usize, r: usize, sample: &[u32], own: bool, h: ListedV
     if !own {
         return false;
     }
-    let kind = byte(t, a + 1);
+    let kind = Kind::from(byte(t, a + 1));
     let g = byte(t, a + 5);
     let y = guard_true(sample, g);
-    if kind != 2 {
+    if kind != Kind::Illegal {
         return y & !h.listed;
     }
     let n = read2(t, a + 6);
@@ -84,38 +68,35 @@ fn put_plains(
     let mut c = 0;
     let mut j = 0;
     let mut at = l.ranges;
-    let mut i = 0;
-    while i < n {
+    for i in 0..n {
         let here = a + 8 * i;
         let own = is_plain(t, here, at, h.point);
         let y = plain_hit(t, here, at, sample, own, h);
-        let place = place_at(plains, j);
+        let place = element(plains, j) as usize;
         c = put_if(hits, c, y, place);
-        j += one_if(own);
+        j += usize::from(own);
         at += 17 * (read2(t, here + 6) as usize);
-        i += 1;
     }
     c
 }
 
-// The same for a known reading.
+// The same for a point and its value.
 pub fn put_plain_hits(
     hits: &mut [u16],
     t: &[u8],
     l: Layout,
     sample: &[u32],
     plains: &[u16],
-    own: PointReading,
+    point: u8,
+    value: u64,
 ) -> usize
-    requires { (l.bins < 1000000000) × (l.ranges < 1000000000) × (l.bin_count ≤ 512) × (length (plain_hits sample.now own.point own.code (listed_in own.point own.code (bins_at t.now l.bins l.ranges l.bin_count)) plains.now 0 (bins_at t.now l.bins l.ranges l.bin_count)) ≤ length hits.old) }
-    ensures { (result ≡ length (plain_hits sample.now own.point own.code (listed_in own.point own.code (bins_at t.now l.bins l.ranges l.bin_count)) plains.now 0 (bins_at t.now l.bins l.ranges l.bin_count))) × (hits.new ≡ put 0 (plain_hits sample.now own.point own.code (listed_in own.point own.code (bins_at t.now l.bins l.ranges l.bin_count)) plains.now 0 (bins_at t.now l.bins l.ranges l.bin_count)) hits.old) }
+    requires { (l.bins < 1000000000) × (l.ranges < 1000000000) × (l.bin_count ≤ 512) × (length (plain_hits sample.now point value (listed_in point value (bins_at t.now l.bins l.ranges l.bin_count)) plains.now 0 (bins_at t.now l.bins l.ranges l.bin_count)) ≤ length hits.old) }
+    ensures { (result ≡ length (plain_hits sample.now point value (listed_in point value (bins_at t.now l.bins l.ranges l.bin_count)) plains.now 0 (bins_at t.now l.bins l.ranges l.bin_count))) × (hits.new ≡ put 0 (plain_hits sample.now point value (listed_in point value (bins_at t.now l.bins l.ranges l.bin_count)) plains.now 0 (bins_at t.now l.bins l.ranges l.bin_count)) hits.old) }
 {
-    let point = own.point;
-    let value = own.code;
     let y = listed(t, l.bins, l.ranges, l.bin_count, point, value);
     let h = ListedValue {
-        point: point,
-        value: value,
+        point,
+        value,
         listed: y,
     };
     put_plains(hits, t, l, sample, plains, h)

@@ -19,10 +19,8 @@ pub fn any_length(lens: &[u32]) -> bool
     ensures { result ≡ any_length lens.now }
 {
     let mut some = false;
-    let mut i = 0;
-    while i < lens.len() {
-        some = some | (lens[i] != 0);
-        i += 1;
+    for x in lens {
+        some |= *x != 0;
     }
     some
 }
@@ -37,10 +35,10 @@ pub fn put_transition_hits(
     own: PointReading,
     end: usize,
 ) -> usize
-    requires { (Sampled t.now l sample.now) × (own.point < point_total (table_of t.now)) × (own.code ≡ reading_code (reading (table_of t.now) sample.now own.point)) × (64 ≤ length lens.now) × (64 ≤ length hits.old) × (end ≡ transition_start (table_of t.now) own.point + length (transition_counters own.point 0 (table_of t.now).transition_bins)) }
+    requires { (Sampled t.now l sample.now) × (own.point < point_total (table_of t.now)) × (own.reading ≡ reading_code (reading (table_of t.now) sample.now own.point)) × (64 ≤ length lens.now) × (64 ≤ length hits.old) × (end ≡ transition_start (table_of t.now) own.point + length (transition_counters own.point 0 (table_of t.now).transition_bins)) }
     ensures { (result ≡ length (transition_places (table_of t.now) sample.now (take (length (table_of t.now).transition_bins) lens.now) own.point)) × (hits.new ≡ put 0 (transition_places (table_of t.now) sample.now (take (length (table_of t.now).transition_bins) lens.now) own.point) hits.old) }
 {
     let mut flags = [0u8; 64];
     let n = put_transitions(&mut flags, 0, t, l, sample, lens, own);
-    put_set(hits, &flags, n, end - n)
+    put_set(hits, &flags[..n], end - n)
 }

@@ -50,10 +50,9 @@ fn section_at(t: &[u8], place: usize) -> Section
     requires { place ≤ 100000000 }
     ensures { Near t.now place result }
 {
-    let n = read2(t, place);
     Section {
         at: place + 2,
-        count: n as usize,
+        count: usize::from(read2(t, place)),
     }
 }
 
@@ -69,21 +68,42 @@ pub fn point_count(t: &[u8]) -> usize
     ensures value { result ≡ (layout_of t.now).point_count }
     ensures upper_bound { result < 65536 }
 {
-    read2(t, 0) as usize
+    usize::from(read2(t, 0))
+}
+
+// The points, the value bins and their ranges.
+#[derive(Clone, Copy)]
+struct FirstSections {
+    points: Section,
+    bins: Section,
+    ranges: Section,
+}
+
+fn first_sections(t: &[u8]) -> FirstSections
+    ensures points { Near t.now 0 result.points }
+    ensures bins { Near t.now (result.points.at + result.points.count * 11) result.bins }
+    ensures ranges { Near t.now (result.bins.at + result.bins.count * 8) result.ranges }
+{
+    let points = section_at(t, 0);
+    let bins = next(t, points, 11);
+    let ranges = next(t, bins, 8);
+    FirstSections {
+        points,
+        bins,
+        ranges,
+    }
 }
 
 pub fn bin_sections(t: &[u8]) -> BinSections
     ensures value { result ≡ bin_sections_of t.now }
     ensures small_bins { SmallBins result }
 {
-    let a = section_at(t, 0);
-    let b = next(t, a, 11);
-    let c = next(t, b, 8);
+    let f = first_sections(t);
     BinSections {
-        bins: b.at,
-        bin_count: b.count,
-        ranges: c.at,
-        range_count: c.count,
+        bins: f.bins.at,
+        bin_count: f.bins.count,
+        ranges: f.ranges.at,
+        range_count: f.ranges.count,
     }
 }
 
@@ -92,46 +112,41 @@ pub fn transition_section(t: &[u8]) -> Section
     ensures value { result ≡ transition_section_of t.now }
     ensures at_bound { (result.at < 16777216) × (result.count < 65536) }
 {
-    let a = section_at(t, 0);
-    let b = next(t, a, 11);
-    let c = next(t, b, 8);
-    next(t, c, 17)
+    next(t, first_sections(t).ranges, 17)
 }
 
 pub fn layout_of(t: &[u8]) -> Layout
     ensures value { result ≡ layout_of t.now }
     ensures small { Small result }
 {
-    let a = section_at(t, 0);
-    let b = next(t, a, 11);
-    let c = next(t, b, 8);
-    let d = next(t, c, 17);
-    let e = next(t, d, 4);
-    let f = next(t, e, 1);
-    let g = next(t, f, 3);
-    let h = next(t, g, 17);
-    let i = next(t, h, 13);
-    let j = next(t, i, 3);
+    let f = first_sections(t);
+    let transitions = next(t, f.ranges, 17);
+    let sequences = next(t, transitions, 4);
+    let steps = next(t, sequences, 1);
+    let step_ranges = next(t, steps, 3);
+    let crosses = next(t, step_ranges, 17);
+    let cross_bins = next(t, crosses, 13);
+    let tokens = next(t, cross_bins, 3);
     Layout {
-        points: a.at,
-        point_count: a.count,
-        bins: b.at,
-        bin_count: b.count,
-        ranges: c.at,
-        range_count: c.count,
-        transitions: d.at,
-        transition_count: d.count,
-        sequences: e.at,
-        sequence_count: e.count,
-        steps: f.at,
-        step_count: f.count,
-        step_ranges: g.at,
-        step_range_count: g.count,
-        crosses: h.at,
-        cross_count: h.count,
-        cross_bins: i.at,
-        cross_bin_count: i.count,
-        tokens: j.at,
-        token_count: j.count,
+        points: f.points.at,
+        point_count: f.points.count,
+        bins: f.bins.at,
+        bin_count: f.bins.count,
+        ranges: f.ranges.at,
+        range_count: f.ranges.count,
+        transitions: transitions.at,
+        transition_count: transitions.count,
+        sequences: sequences.at,
+        sequence_count: sequences.count,
+        steps: steps.at,
+        step_count: steps.count,
+        step_ranges: step_ranges.at,
+        step_range_count: step_ranges.count,
+        crosses: crosses.at,
+        cross_count: crosses.count,
+        cross_bins: cross_bins.at,
+        cross_bin_count: cross_bins.count,
+        tokens: tokens.at,
+        token_count: tokens.count,
     }
 }

@@ -42,9 +42,6 @@ cap-times x g = go (leb x 1025) refl g
 pub cap-fits : (n : ℕ) → leb (capped n) 1024 ≡ leb n 1024
 cap-fits n = bool_eq _ _ (λ e. le-leb n 1024 (omega (arith, leb-true (capped n) 1024 e))) (λ e. le-leb (capped n) 1024 (omega (arith, leb-true n 1024 e)))
 
-pub product_small : (a b : ℕ) → a ≤ 1025 → b < 4294967296 → a * b ≤ 4402341478400
-product_small a b h k = mul-le-mul h (let z : b ≤ 4294967296 = omega arith in z)
-
 module _ (s : List ℕ) (c n : ℕ) (f : ℕ → ℕ) where
   pub products_start : capped (product_of f (points_from s c 0 n)) ≡ capped (1 * product_of f (points_from s c 0 (n - 0)))
   products_start = (let z : capped (product_of f (points_from s c 0 n)) ≡ capped (1 * product_of f (points_from s c 0 n)) = ap capped (let y : product_of f (points_from s c 0 n) ≡ 1 * product_of f (points_from s c 0 n) = omega arith in y) in rw sub-zero z)

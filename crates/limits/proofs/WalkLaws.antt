@@ -1,12 +1,18 @@
 -- Sums as loops keep them: x is the sum from the loop's start, and what is left gives it too.
 -- Assumes nothing.
-use mathlib.Core.Path.{◌≡◌, sym, ap₂, ◌∙◌}
+use mathlib.Core.Path.{◌≡◌, refl, sym, ap, ap₂, ◌∙◌}
+use mathlib.Core.List.{List}
 use Prim.Native.Nat.{ℕ, zero, suc, ◌+◌, ◌-◌, ◌≤◌, ◌<◌}
 use native.Mathlib.Nat.{sub-zero}
 use native.Mathlib.Omega.{arith}
 use borrow.Author.Rules.{rules}
 use Rattle.model.proofs.Lists.{none_left, one_left}
-use Rattle.limits.specs.Walks.{walk_sum}
+use Rattle.model.specs.Lists.{sum_of}
+use Rattle.model.specs.Format.{byte}
+use Rattle.model.specs.Raw.{rows}
+use Rattle.words.specs.Sums.{sum_from, byte_sum, here}
+use Rattle.words.proofs.ByteSums.{byte_field₀}
+use Rattle.limits.specs.Walks.{walk_sum, after, byte_at}
 
 module _ {S : Type 0} (f : S → ℕ) (next : S → S) where
   pub walk_start : (m : ℕ) (st : S) → walk_sum 0 f next st m ≡ walk_sum 0 f next st (m - 0)
@@ -32,3 +38,16 @@ walk_from f next sum st (suc n) = omega (arith, walk_from f next (sum + f st) (n
 pub walk-cons : {S : Type 0} (f : S → ℕ) (next : S → S) (st : S) (n : ℕ) → walk_sum 0 f next st (suc n) ≡ f st + walk_sum 0 f next (next st) n
 unfolding walk_sum
 walk-cons f next st n = walk_from f next (0 + f st) (next st) n ∙ (let z : 0 + f st + walk_sum 0 f next (next st) n ≡ f st + walk_sum 0 f next (next st) n = omega arith in z)
+
+-- a walk over places, size apart
+pub walk-rows : (f : ℕ → ℕ) (size at n : ℕ) → sum_of f (rows here size at n) ≡ walk_sum 0 f (after size) at n
+unfolding sum_of rows
+walk-rows f size at zero = unfold walk_sum in refl
+walk-rows f size at (suc n) = ap (f at +◌) (walk-rows f size (at + size) n) ∙ sym (walk-cons f (after size) at n)
+
+pub walk-terms : (f : ℕ → ℕ) (size at n sum : ℕ) → sum ≡ sum_from 0 f here size at n → sum ≡ walk_sum 0 f (after size) at n
+unfolding sum_from
+walk-terms f size at n sum e = omega (arith, walk-rows f size at n)
+
+pub walk-bytes : (s : List ℕ) (size at n : ℕ) → byte_sum s size at n ≡ walk_sum 0 (byte_at s) (after size) at n
+walk-bytes s size at n = byte_field₀ s (byte s) here size (λ at. refl) at n ∙ walk-rows (byte_at s) size at n

@@ -1,6 +1,6 @@
 -- What the tally of a table says.
 -- Assumes nothing.
-use Rattle.std.specs.Prelude.{ℕ, ◌<◌, ◌≡◌, true, List, get_or}
+use Rattle.std.specs.Prelude.{ℕ, ◌<◌, ◌≡◌, cond, List, get_or, Option, Some, None}
 use Rattle.model.specs.Table.{Table}
 use Rattle.model.specs.Counters.{within_limits}
 use Rattle.model.specs.Ranges.{counters_at, covers_at}
@@ -9,16 +9,15 @@ use Rattle.model.specs.Register.{counter_total, run_total, illegal_total}
 use Rattle.limits.specs.Bins.{Entries, counters_in}
 use Rattle.limits.specs.declared.answer.Tally.{Tally}
 
--- whether the limits of refusal 6 hold, the totals, and the counters if the limits hold
+-- the counters, if the limits of refusal 6 hold
+abbrev pub counters_within : Table → Option ℕ
+counters_within t = cond (within_limits t) (Some (counter_total t)) None
+
+-- these, and the totals
 pub record Tallied (t : Table) (r : Tally) : Type 0 where
-  pub fits : r.fits ≡ within_limits t
-  pub counters : within_limits t ≡ true → r.counters ≡ counter_total t
+  pub counters : r.counters ≡ counters_within t
   pub runs : r.runs ≡ run_total t
   pub illegals : r.illegals ≡ illegal_total t
-
--- n counters, if the limits hold
-abbrev pub CountersOf : Table → ℕ → Type 0
-CountersOf t n = within_limits t ≡ true → n ≡ counter_total t
 
 -- the entries of the points of a table that was read: the cover bins that take part in crosses, and the other counters
 pub record Counted (s : List ℕ) (covers singles : List ℕ) : Type 0 where

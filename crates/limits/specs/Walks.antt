@@ -3,11 +3,16 @@
 use Rattle.std.specs.Prelude.{ℕ, zero, suc, ◌+◌, ◌*◌, ◌≤◌, ◌≡◌, cond, List, eqb, length}
 use Rattle.model.specs.Format.{got, byte, read_table}
 use Rattle.model.specs.Raw.{raw_table}
+use Rattle.layout.specs.Places.{layout_of, Small}
 use Rattle.layout.specs.declared.Layout.{Layout}
 
 -- The bytes passed all tests before refusal 6, and are read as the table by places.
 abbrev pub Readable : List ℕ → Type 0
 Readable s = (read_table s 0 ≡ got (raw_table s) (length s)) × (length s ≤ 65536)
+
+-- l is the layout of such bytes
+abbrev pub Laid : List ℕ → Layout → Type 0
+Laid s l = Readable s × (l ≡ layout_of s) × Small l
 
 -- `sum`, and what f gives at n states from st on
 unfoldable pub walk_sum : {S : Type 0} → ℕ → (S → ℕ) → (S → S) → S → ℕ → ℕ

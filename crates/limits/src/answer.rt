@@ -1,8 +1,7 @@
-// Whether the limits of refusal 6 hold; and the counters, the run words and the illegal counters of a table.
+// What a table counts: its counters, if the limits of refusal 6 hold; the run words and the illegal counters.
 #[derive(Clone, Copy)]
 pub struct Tally {
-    pub fits: bool,
-    pub counters: usize,
+    pub counters: Option<usize>,
     pub runs: usize,
     pub illegals: usize,
 }

@@ -1,33 +1,31 @@
 // The auto bins of the points, and the counters of all of them.
-ghost use Rattle.std.specs.Prelude.{◌≡◌, ◌+◌, ◌*◌, ◌≤◌, ◌<◌};
+ghost use Rattle.std.specs.Prelude.{◌≡◌, ◌+◌, ◌*◌, ◌≤◌, ◌<◌, cond, Some, None, IfSome};
 ghost use Rattle.model.specs.Lists.{all};
 ghost use Rattle.model.specs.Counters.{auto_count};
 ghost use Rattle.model.specs.Format.{point_record};
 ghost use Rattle.model.specs.Raw.{rows};
 ghost use Rattle.ranges.specs.Types.{Wide, AllWide};
-ghost use Rattle.layout.specs.Places.{layout_of, Small};
-ghost use Rattle.limits.specs.Walks.{Readable, walk_sum, after, value_illegals};
+ghost use Rattle.layout.specs.Places.{Small};
+ghost use Rattle.limits.specs.Walks.{Laid, walk_sum, after, value_illegals};
 ghost use Rattle.limits.specs.Bins.{added, Entries, here, autos_at, counters_in, point_fits};
 ghost use Rattle.limits.specs.Tallies.{Counted};
 
 use crate::bins::add_bins;
-use crate::entries::{add, entry};
-use crate::sums::Sum;
+use crate::entries::{Counts, add, entry};
+use crate::sums::sum_within;
 use crate::transitions::add_transitions;
 use layout::Layout;
-use ranges::next::least;
-use ranges::power;
-use words::bytes::{byte, read2};
+use ranges::{power, type_at};
+use words::bytes::read2;
 
 // How many auto bins the point whose record is at point has, if it has any.
 fn auto_count(t: &[u8], point: usize) -> usize
     requires { (point ≤ 1000000000) × Wide t.now point }
     ensures { (result ≡ auto_count (point_record t.now point)) × (result ≤ 65535) }
 {
-    let width = byte(t, point);
-    let all = power(width);
-    let most = read2(t, point + 9);
-    least(all, most as u64) as usize
+    let all = power(type_at(t, point).width) as usize;
+    let most = usize::from(read2(t, point + 9));
+    all.min(most)
 }
 
 // The auto bins of point p.
@@ -41,52 +39,42 @@ fn autos_at(t: &[u8], bars: &[u32], points: usize, p: usize) -> u32
     auto_count(t, points + 11 * p) as u32
 }
 
-// The auto bins of n points.
-fn add_autos(covers: &mut [u32], bars: &[u32], t: &[u8], points: usize, n: usize)
-    requires { (points ≤ 16777216) × (n ≤ 16) × AllWide t.now points n × Entries 40000000 covers.old }
-    ensures covers_after { covers.new ≡ added here (autos_at t.now points bars.now) (rows here 1 0 n) covers.old }
-    ensures entries { Entries (40000000 + 65535 * n) covers.new }
+// The auto bins of all points.
+fn add_autos(counts: &mut Counts, t: &[u8], l: Layout)
+    requires { Small l × (l.point_count ≤ 16) × AllWide t.now l.points l.point_count × Entries 40000000 counts.old.covers }
+    ensures covers_after { counts.new.covers ≡ added here (autos_at t.now l.points counts.old.bars) (rows here 1 0 l.point_count) counts.old.covers }
+    ensures singles { counts.new.singles ≡ counts.old.singles }
+    ensures entries { Entries (40000000 + 65535 * l.point_count) counts.new.covers }
 {
-    let mut i = 0;
-    while i < n {
-        let found = autos_at(t, bars, points, i);
-        add(covers, i, found);
-        i += 1;
+    for i in 0..l.point_count {
+        let found = autos_at(t, &counts.bars, l.points, i);
+        add(&mut counts.covers, i, found);
     }
 }
 
 // The cover bins and the other counters of every point; and how many value bins are illegal bins.
-pub fn count_points(covers: &mut [u32], singles: &mut [u32], t: &[u8], l: Layout) -> usize
-    requires readable { Readable t.now × (l ≡ layout_of t.now) × Small l }
-    requires entries { Entries 0 covers.old × Entries 0 singles.old }
-    ensures { Counted t.now covers.new singles.new × (result ≡ value_illegals t.now l) × (result ≤ 512) }
+pub fn count_points(counts: &mut Counts, t: &[u8], l: Layout) -> usize
+    requires readable { Laid t.now l }
+    requires entries { Entries 0 counts.old.covers × Entries 0 counts.old.singles × Entries 0 counts.old.bars }
+    ensures { Counted t.now counts.new.covers counts.new.singles × (result ≡ value_illegals t.now l) × (result ≤ 512) }
 {
-    let mut bars: [u32; 16] = [0; 16];
-    let illegals = add_bins(covers, singles, &mut bars, t, l);
-    add_transitions(singles, &mut bars, t, l.transitions, l.transition_count);
-    add_autos(covers, &bars, t, l.points, l.point_count);
+    let illegals = add_bins(counts, t, l);
+    add_transitions(counts, t, l);
+    add_autos(counts, t, l);
     illegals
 }
 
-// The counters of all points; they fit if no point has more than 256.
-pub fn point_sum(covers: &[u32], singles: &[u32], n: usize) -> Sum
+// The counters of n points, if none has more than 256.
+pub fn point_sum(counts: &Counts, n: usize) -> Option<usize>
     requires { n ≤ 65535 }
-    ensures fits_value { result.fits ≡ all (point_fits covers.now singles.now) (rows here 1 0 n) }
-    ensures total_value { (result.total ≡ walk_sum 0 (counters_in covers.now singles.now) (after 1) 0 n) × (result.total ≤ 8589934590 * n) }
+    ensures value { result ≡ cond (all (point_fits counts.now.covers counts.now.singles) (rows here 1 0 n)) (Some (walk_sum 0 (counters_in counts.now.covers counts.now.singles) (after 1) 0 n)) None }
+    ensures bound { IfSome result (λ sum. sum ≤ 256 * n) }
 {
-    let mut fits = true;
-    let mut sum: usize = 0;
-    let mut i = 0;
-    while i < n {
-        let a = entry(covers, i) as usize;
-        let b = entry(singles, i) as usize;
-        let found = a + b;
-        fits = fits & (found <= 256);
-        sum += found;
-        i += 1;
-    }
-    Sum {
-        fits: fits,
-        total: sum,
-    }
+    sum_within(
+        0,
+        1,
+        n,
+        256,
+        |p| entry(&counts.covers, p) + entry(&counts.singles, p),
+    )
 }

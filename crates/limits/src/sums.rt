@@ -1,51 +1,33 @@
-// Sums over bytes that stand in a row, size bytes apart.
-ghost use Rattle.std.specs.Prelude.{◌≡◌, cond, ◌*◌, ◌≤◌};
-ghost use Rattle.limits.specs.Walks.{walk_sum, after, byte_at, is_byte};
+// A sum of terms by their places, which stand in a row, size apart.
+ghost use Rattle.std.specs.Prelude.{◌≡◌, ℕ, leb, cond, Some, None, IfSome, ◌+◌, ◌*◌, ◌≤◌};
+ghost use Rattle.model.specs.Lists.{all};
+ghost use Rattle.model.specs.Raw.{rows};
+ghost use Rattle.limits.specs.Walks.{walk_sum, after};
+ghost use Rattle.limits.specs.Bins.{here};
 
-use words::bytes::byte;
-
-// A sum, and whether each of its terms keeps its limit.
-#[derive(Clone, Copy)]
-pub struct Sum {
-    pub fits: bool,
-    pub total: usize,
-}
-
-pub fn one_if(c: bool) -> usize
-    ensures { (result ≡ cond c 1 0) × (result ≤ 1) }
-{
-    if c { 1 } else { 0 }
-}
-
-pub fn sum_bytes(t: &[u8], start: usize, size: usize, n: usize) -> usize
-    requires { (start ≤ 1099511627776) × (size ≤ 20) × (n ≤ 1048576) }
-    ensures { (result ≡ walk_sum 0 (byte_at t.now) (after size) start n) × (result ≤ 255 * n) }
+// The sum of n terms, if none is over a limit.
+pub fn sum_within<F: Fn(usize) -> usize>(
+    start: usize,
+    size: usize,
+    n: usize,
+    limit: usize,
+    term: F,
+) -> Option<usize>
+    requires start_bound { (start ≤ 16777216) × (size ≤ 20) × (n ≤ 65535) × (limit ≤ 65536) }
+    requires callable { (at : ℕ) → at ≤ 100000000 → F.pre term at }
+    ensures value { (f : ℕ → ℕ) → ((at y : ℕ) → at ≤ 100000000 → F.post term at y → y ≡ f at)
+        → result ≡ cond (all (λ at. leb (f at) limit) (rows here size start n)) (Some (walk_sum 0 f (after size) start n)) None }
+    ensures bound { IfSome result (λ sum. sum ≤ limit * n) }
 {
     let mut sum: usize = 0;
     let mut at = start;
-    let mut i = 0;
-    while i < n {
-        let b = byte(t, at);
-        sum += b as usize;
+    for i in 0..n {
+        let found = term(at);
+        if limit < found {
+            return None;
+        }
+        sum += found;
         at += size;
-        i += 1;
     }
-    sum
-}
-
-// How many of the bytes are v.
-pub fn count_bytes(t: &[u8], start: usize, size: usize, n: usize, v: u8) -> usize
-    requires { (start ≤ 1099511627776) × (size ≤ 20) × (n ≤ 1048576) }
-    ensures { (result ≡ walk_sum 0 (is_byte t.now v) (after size) start n) × (result ≤ n) }
-{
-    let mut sum: usize = 0;
-    let mut at = start;
-    let mut i = 0;
-    while i < n {
-        let b = byte(t, at);
-        sum += one_if(b == v);
-        at += size;
-        i += 1;
-    }
-    sum
+    Some(sum)
 }

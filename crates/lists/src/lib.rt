@@ -3,7 +3,7 @@
 
 mod rows;
 
-ghost use Rattle.std.specs.Prelude.{◌≡◌, true, ◌∷◌, ◌≤◌, ◌+◌, ◌*◌, length, take};
+ghost use Rattle.std.specs.Prelude.{◌≡◌, true, ◌∷◌, ◌<◌, ◌≤◌, ◌+◌, ◌*◌, length, take};
 ghost use Rattle.model.specs.Format.{accepted, table_of};
 ghost use Rattle.model.specs.Register.{point_total};
 ghost use Rattle.arrays.specs.Put.{put};
@@ -15,7 +15,7 @@ ghost use Rattle.lists.specs.Stages.{Listed};
 
 use crate::rows::put_place_rows;
 use crosses::marked::mark_all;
-use places::put_of_kind;
+use places::put_illegals;
 use sampling::Index;
 use sampling::planned::put_first;
 
@@ -31,11 +31,7 @@ fn copy(out: &mut [u16], from: &[u16], n: usize)
     requires { (n ≤ length from.now) × (n ≤ length out.old) }
     ensures { out.new ≡ put 0 (take n from.now) out.old }
 {
-    let mut i = 0;
-    while i < n {
-        out[i] = from[i];
-        i += 1;
-    }
+    out[..n].copy_from_slice(&from[..n]);
 }
 
 // How many of n counters are illegal, and then their places. Answers how many.
@@ -43,7 +39,7 @@ fn put_illegal(out: &mut [u16], kinds: &[u8], n: usize) -> usize
     requires { (n ≤ length kinds.now) × (1 + length (places_from (of_kind 2) 0 (take n kinds.now)) ≤ length out.old) × (n ≤ 65535) }
     ensures { (result ≡ length (places_from (of_kind 2) 0 (take n kinds.now))) × (out.new ≡ put 0 (length (places_from (of_kind 2) 0 (take n kinds.now)) ∷ places_from (of_kind 2) 0 (take n kinds.now)) out.old) }
 {
-    let c = put_of_kind(&mut out[1..], kinds, n, 0, 2);
+    let c = put_illegals(&mut out[1..], &kinds[..n], 0);
     out[0] = c as u16;
     c
 }
@@ -78,54 +74,28 @@ fn put_all(plan: &mut [u64], lists: &mut [u16], first: &mut [u16], t: &[u8], kin
     mark_all(&mut lists[c + 16..], t, &counts, plan, first);
 }
 
-// ---- size classes: a table of few points does not pay for the clearing of a large array
-
-fn put_small(plan: &mut [u64], lists: &mut [u16], t: &[u8], kinds: &[u8], x: Index)
-    requires { (accepted t.now ≡ true) × Indexed (table_of t.now) x × Labelled (table_of t.now) kinds.now × (plan_need (table_of t.now) ≤ length plan.old) × (lists_need (table_of t.now) ≤ length lists.old) × (point_total (table_of t.now) ≤ 4) }
+// The same with scratch of N elements. It is not inlined: each size has a frame of its own.
+#[inline(never)]
+fn put_in<const N: usize>(plan: &mut [u64], lists: &mut [u16], t: &[u8], kinds: &[u8], x: Index)
+    requires { (accepted t.now ≡ true) × Indexed (table_of t.now) x × Labelled (table_of t.now) kinds.now × (plan_need (table_of t.now) ≤ length plan.old) × (lists_need (table_of t.now) ≤ length lists.old) × (places_at (point_total (table_of t.now)) ≤ N) × (N < 65536) }
     ensures { Planned (table_of t.now) plan.new lists.new × (length plan.new ≡ length plan.old) × (length lists.new ≡ length lists.old) }
 {
-    let mut first = [0u16; 1088];
+    let mut first = [0u16; N];
     put_all(plan, lists, &mut first, t, kinds, x);
 }
 
-fn put_medium(plan: &mut [u64], lists: &mut [u16], t: &[u8], kinds: &[u8], x: Index)
-    requires { (accepted t.now ≡ true) × Indexed (table_of t.now) x × Labelled (table_of t.now) kinds.now × (plan_need (table_of t.now) ≤ length plan.old) × (lists_need (table_of t.now) ≤ length lists.old) × (point_total (table_of t.now) ≤ 8) }
-    ensures { Planned (table_of t.now) plan.new lists.new × (length plan.new ≡ length plan.old) × (length lists.new ≡ length lists.old) }
-{
-    let mut first = [0u16; 2112];
-    put_all(plan, lists, &mut first, t, kinds, x);
-}
-
-fn put_largest(plan: &mut [u64], lists: &mut [u16], t: &[u8], kinds: &[u8], x: Index)
+// A table of few points does not pay for the clearing of a large array.
+fn put_planned(plan: &mut [u64], lists: &mut [u16], t: &[u8], kinds: &[u8], x: Index)
     requires { (accepted t.now ≡ true) × Indexed (table_of t.now) x × Labelled (table_of t.now) kinds.now × (plan_need (table_of t.now) ≤ length plan.old) × (lists_need (table_of t.now) ≤ length lists.old) }
     ensures { Planned (table_of t.now) plan.new lists.new × (length plan.new ≡ length plan.old) × (length lists.new ≡ length lists.old) }
 {
-    let mut first = [0u16; 4160];
-    put_all(plan, lists, &mut first, t, kinds, x);
-}
-
-// The first class, from class on, that has room. It calls itself, since a compiler then keeps the classes' arrays out of its frame and each other's.
-fn put_planned(plan: &mut [u64], lists: &mut [u16], t: &[u8], kinds: &[u8], x: Index, class: usize)
-    requires { (accepted t.now ≡ true) × Indexed (table_of t.now) x × Labelled (table_of t.now) kinds.now × (plan_need (table_of t.now) ≤ length plan.old) × (lists_need (table_of t.now) ≤ length lists.old) }
-    ensures { Planned (table_of t.now) plan.new lists.new × (length plan.new ≡ length plan.old) × (length lists.new ≡ length lists.old) }
-{
-    if class == 0 {
-        if x.points <= 4 {
-            put_small(plan, lists, t, kinds, x);
-            return;
-        }
-        put_planned(plan, lists, t, kinds, x, 1);
-        return;
+    if x.points <= 4 {
+        return put_in::<1088>(plan, lists, t, kinds, x);
     }
-    if class == 1 {
-        if x.points <= 8 {
-            put_medium(plan, lists, t, kinds, x);
-            return;
-        }
-        put_planned(plan, lists, t, kinds, x, 2);
-        return;
+    if x.points <= 8 {
+        return put_in::<2112>(plan, lists, t, kinds, x);
     }
-    put_largest(plan, lists, t, kinds, x);
+    put_in::<4160>(plan, lists, t, kinds, x)
 }
 
 // The same, and the number of counters.
@@ -133,6 +103,6 @@ pub fn put_ready(plan: &mut [u64], lists: &mut [u16], t: &[u8], kinds: &[u8], x:
     requires { (accepted t.now ≡ true) × Indexed (table_of t.now) x × Labelled (table_of t.now) kinds.now × (plan_need (table_of t.now) ≤ length plan.old) × (lists_need (table_of t.now) ≤ length lists.old) }
     ensures { Ready (table_of t.now) plan.new lists.new × (length plan.new ≡ length plan.old) × (length lists.new ≡ length lists.old) }
 {
-    put_planned(plan, lists, t, kinds, x, 0);
+    put_planned(plan, lists, t, kinds, x);
     lists[COUNTERS_AT] = x.counters as u16;
 }

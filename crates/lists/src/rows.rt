@@ -9,15 +9,16 @@ ghost use Rattle.places.specs.Places.{PlaceRows};
 ghost use Rattle.lists.specs.Stages.{row_of};
 
 use layout::point_count;
-use places::put_of_kind;
+use places::{put_covers, put_plains};
 
 // The row of a point with n counters, the first of which has place base.
 fn put_row(row: &mut [u16], kinds: &[u8], n: usize, base: usize)
     requires { (n ≤ length kinds.now) × (258 ≤ length row.old) × (n ≤ 256) × (base + n ≤ 65535) }
     ensures { row.new ≡ put 0 (row_of base (take n kinds.now)) row.old }
 {
-    let c = put_of_kind(&mut row[2..], kinds, n, base, 0);
-    let q = put_of_kind(&mut row[2 + c..], kinds, n, base, 1);
+    let own = &kinds[..n];
+    let c = put_covers(&mut row[2..], own, base);
+    let q = put_plains(&mut row[2 + c..], own, base);
     row[1] = c as u16;
     row[0] = q as u16;
 }
@@ -29,11 +30,9 @@ pub fn put_place_rows(rows: &mut [u16], t: &[u8], kinds: &[u8], starts: &[u16])
     ensures { PlaceRows (table_of t.now) rows.new × (length rows.new ≡ length rows.old) }
 {
     let n = point_count(t);
-    let mut p: usize = 0;
-    while p < n {
+    for p in 0..n {
         let from = starts[p] as usize;
         let end = starts[p + 1] as usize;
         put_row(&mut rows[258 * p..], &kinds[from..], end - from, from);
-        p += 1;
     }
 }

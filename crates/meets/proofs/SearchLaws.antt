@@ -18,13 +18,11 @@ use Rattle.model.proofs.Booleans.{false-true, bool_eq}
 use Rattle.model.proofs.Lists.{none_left, one_left}
 use Rattle.model.proofs.NextValue.{pattern_ge, pattern-least}
 use Rattle.model.proofs.Searches.{any-from-some, some-any-from}
-use Rattle.arrays.specs.Put.{put}
 use Rattle.spans.specs.Spans.{held_by, apart, free}
 use Rattle.spans.specs.Point.{free_value}
 use Rattle.spans.proofs.LookLaws.{free_least}
 use Rattle.parts.specs.Rows.{raise_all}
 use Rattle.parts.proofs.FlagLaws.{raised-row}
-use Rattle.parts.proofs.RaiseLaws.{cleared}
 use Rattle.meets.specs.Pieces.{Piece, high_in, part_above, piece_at, pieces_at}
 use Rattle.meets.specs.Met.{left_in, pattern_met, is_met, reach_end, met_parts, met_one, met_flags, next_fit}
 
@@ -228,6 +226,6 @@ module _ (f : ℕ → ℕ) (lo hi : ℕ) (w : List ℕ) (n : ℕ) where
   pub met_none : (i : ℕ) (l : List ℕ) → n ≤ i → raise_all (met_parts f lo hi (pieces_at w (2 * n) (n - n))) l ≡ raise_all (met_parts f lo hi (pieces_at w (2 * i) (n - i))) l
   met_none i l h = met_end n l (omega arith) ∙ sym (met_end i l h)
 
-  pub met_all : (l l₁ l₂ : List ℕ) → l₁ ≡ put 0 (replicate (length l) 0) l → l₂ ≡ raise_all (met_parts f lo hi (pieces_at w 0 n)) l₁ → l₂ ≡ met_flags f lo hi (pieces_at w 0 n) (length l)
+  pub met_all : (l l₁ l₂ : List ℕ) → l₁ ≡ replicate (length l) 0 → l₂ ≡ raise_all (met_parts f lo hi (pieces_at w 0 n)) l₁ → l₂ ≡ met_flags f lo hi (pieces_at w 0 n) (length l)
   unfolding met_flags
-  met_all l l₁ l₂ e₁ e₂ = e₂ ∙ ap (raise_all (met_parts f lo hi (pieces_at w 0 n))) (cleared l l₁ e₁) ∙ raised-row (length l) (met_parts f lo hi (pieces_at w 0 n))
+  met_all l l₁ l₂ e₁ e₂ = e₂ ∙ ap (raise_all (met_parts f lo hi (pieces_at w 0 n))) e₁ ∙ raised-row (length l) (met_parts f lo hi (pieces_at w 0 n))

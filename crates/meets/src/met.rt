@@ -10,24 +10,15 @@ ghost use Rattle.parts.specs.Rows.{raise_all};
 ghost use Rattle.meets.specs.Pieces.{piece_at, pieces_at, met_bits};
 ghost use Rattle.meets.specs.Met.{pattern_met, reach_end, met_parts, met_one, met_flags, next_fit, PartBelow, Asked};
 
-use arrays::put_same;
-use ranges::next::{larger, less, next_pattern};
+use crate::ask::Ask;
+use ranges::next::next_pattern;
 use spans::lookup::free_value;
-
-// The lowest value of the point's type, two values of it, and how many parts the point has.
-#[derive(Clone, Copy)]
-pub struct Ask {
-    pub low: u64,
-    pub lo: u64,
-    pub hi: u64,
-    pub parts: usize,
-}
 
 // The value fits the pattern.
 fn fits(bits: u64, mask: u64, v: u64) -> bool
     ensures { result ≡ in_range (pattern bits mask) v }
 {
-    less(v, 2147483648) & mask == bits
+    v.saturating_sub(2147483648) & mask == bits
 }
 
 // The least value from x up that fits the pattern, or a smaller number where none does.
@@ -38,12 +29,12 @@ fn next_fit(bits: u64, mask: u64, x: u64) -> u64
     if (x < 2147483648) & (bits == 0) {
         return x;
     }
-    2147483648 + next_pattern(bits, mask, less(x, 2147483648))
+    2147483648 + next_pattern(bits, mask, x.saturating_sub(2147483648))
 }
 
 // A value from lo to hi fits the pattern and is left.
 fn pattern_met(spans: &[u64], bits: u64, mask: u64, ask: Ask) -> bool
-    requires { (apart spans.now ≡ true) × (ask.low ≤ ask.lo) × (ask.lo < 8589934592) × (ask.hi < 8589934592) }
+    requires { apart spans.now ≡ true }
     ensures { result ≡ pattern_met (free_value spans.now ask.low) bits mask ask.lo ask.hi }
 {
     let mut v = next_fit(bits, mask, ask.lo);
@@ -52,14 +43,14 @@ fn pattern_met(spans: &[u64], bits: u64, mask: u64, ask: Ask) -> bool
         if (free == v) & fits(bits, mask, v) {
             return true;
         }
-        v = next_fit(bits, mask, larger(free, v + 1));
+        v = next_fit(bits, mask, free.max(v + 1));
     }
     false
 }
 
 // A 1 at the part of the pattern at at, if it is met.
 fn meet_pattern(flags: &mut [u8], words: &[u64], at: usize, spans: &[u64], ask: Ask)
-    requires at_in_bounds { (at + 2 ≤ length words.now) × (562949953421312 ≤ get_or words.now (at + 1) 0) × (apart spans.now ≡ true) × (ask.low ≤ ask.lo) × (ask.lo < 8589934592) × (ask.hi < 8589934592) }
+    requires at_in_bounds { (at + 2 ≤ length words.now) × (562949953421312 ≤ get_or words.now (at + 1) 0) × (apart spans.now ≡ true) }
     requires part_below { PartBelow (length flags.old) (piece_at words.now at) }
     ensures { flags.new ≡ met_one (free_value spans.now ask.low) ask.lo ask.hi (piece_at words.now at) flags.old }
 {
@@ -80,15 +71,12 @@ pub struct Reach {
 }
 
 fn reach_of(spans: &[u64], ask: Ask) -> Reach
-    requires { (apart spans.now ≡ true) × (ask.low ≤ ask.lo) × (ask.lo < 8589934592) × (ask.hi < 8589934592) }
+    requires { apart spans.now ≡ true }
     ensures { (result.from ≡ free_value spans.now ask.low ask.lo) × (result.end ≡ reach_end result.from ask.hi) }
 {
     let from = free_value(spans, ask.low, ask.lo);
     let end = if from <= ask.hi { ask.hi + 1 } else { 0 };
-    Reach {
-        from: from,
-        end: end,
-    }
+    Reach { from, end }
 }
 
 // A 1 at k, if it is on.
@@ -101,14 +89,14 @@ fn mark(flags: &mut [u8], k: usize, on: bool)
     }
 }
 
+// Here and below n counts pieces, of two words each: a slice of the words alone would have half its length in each contract.
 // A 1 at the part of each span that is met, from piece i to the first pattern. Answers which piece that is, or n.
 fn meet_spans(flags: &mut [u8], words: &[u64], i: usize, n: usize, reach: Reach) -> usize
     requires { (i ≤ n) × (2 * n ≤ length words.now) × All (PartBelow (length flags.old)) (pieces_at words.now 0 n) }
     ensures lower_bound { (i ≤ result) × (result ≤ n) × (result < n → 562949953421312 ≤ get_or words.now (2 * result + 1) 0) }
     ensures by_index { (f : ℕ → ℕ) (lo hi : ℕ) → reach.from ≡ f lo → reach.end ≡ reach_end reach.from hi → raise_all (met_parts f lo hi (pieces_at words.now (2 * result) (n - result))) flags.new ≡ raise_all (met_parts f lo hi (pieces_at words.now (2 * i) (n - i))) flags.old }
 {
-    let mut j = i;
-    while j < n {
+    for j in i..n {
         let at = 2 * j;
         let w = words[at + 1];
         if 562949953421312 <= w {
@@ -118,7 +106,6 @@ fn meet_spans(flags: &mut [u8], words: &[u64], i: usize, n: usize, reach: Reach)
         let b = w % 8589934592;
         let k = (w / 8589934592) as usize;
         mark(flags, k, (a < reach.end) & (reach.from <= b));
-        j += 1;
     }
     n
 }
@@ -133,7 +120,7 @@ fn meet_run(
     reach: Reach,
     ask: Ask,
 ) -> usize
-    requires i_lt_n { (i < n) × (2 * n ≤ length words.now) × (reach.from ≡ free_value spans.now ask.low ask.lo) × (reach.end ≡ reach_end reach.from ask.hi) × (apart spans.now ≡ true) × (ask.low ≤ ask.lo) × (ask.lo < 8589934592) × (ask.hi < 8589934592) }
+    requires i_lt_n { (i < n) × (2 * n ≤ length words.now) × (reach.from ≡ free_value spans.now ask.low ask.lo) × (reach.end ≡ reach_end reach.from ask.hi) × (apart spans.now ≡ true) }
     requires all { All (PartBelow (length flags.old)) (pieces_at words.now 0 n) }
     ensures { (i < result) × (result ≤ n) × (raise_all (met_parts (free_value spans.now ask.low) ask.lo ask.hi (pieces_at words.now (2 * result) (n - result))) flags.new ≡ raise_all (met_parts (free_value spans.now ask.low) ask.lo ask.hi (pieces_at words.now (2 * i) (n - i))) flags.old) }
 {
@@ -147,7 +134,7 @@ fn meet_run(
 
 // A 1 at each part of which one of n pieces is met.
 fn meet(flags: &mut [u8], words: &[u64], n: usize, spans: &[u64], ask: Ask)
-    requires n_in_bounds { (2 * n ≤ length words.now) × (apart spans.now ≡ true) × (ask.low ≤ ask.lo) × (ask.lo < 8589934592) × (ask.hi < 8589934592) }
+    requires n_in_bounds { (2 * n ≤ length words.now) × (apart spans.now ≡ true) }
     requires all { All (PartBelow (length flags.old)) (pieces_at words.now 0 n) }
     ensures { flags.new ≡ raise_all (met_parts (free_value spans.now ask.low) ask.lo ask.hi (pieces_at words.now 0 n)) flags.old }
 {
@@ -160,19 +147,18 @@ fn meet(flags: &mut [u8], words: &[u64], n: usize, spans: &[u64], ask: Ask)
 
 // A byte for each part: 1 where one of its pieces is met.
 fn put_flags(flags: &mut [u8], words: &[u64], n: usize, spans: &[u64], ask: Ask)
-    requires n_in_bounds { (2 * n ≤ length words.now) × (apart spans.now ≡ true) × (ask.low ≤ ask.lo) × (ask.lo < 8589934592) × (ask.hi < 8589934592) }
+    requires n_in_bounds { (2 * n ≤ length words.now) × (apart spans.now ≡ true) }
     requires all { All (PartBelow (length flags.old)) (pieces_at words.now 0 n) }
     ensures { flags.new ≡ met_flags (free_value spans.now ask.low) ask.lo ask.hi (pieces_at words.now 0 n) (length flags.old) }
 {
-    let m = flags.len();
-    put_same(flags, 0, m, 0);
+    flags.fill(0);
     meet(flags, words, n, spans, ask);
 }
 
 // For each part of the point: whether it still holds a value from lo to hi. words has the point's pieces, two words each.
 pub fn put_met(out: &mut [u8], at: usize, words: &[u64], spans: &[u64], ask: Ask)
     requires parts_in_bounds { (at + ask.parts ≤ length out.old) × All (PartBelow ask.parts) (pieces_at words.now 0 (length words.now / 2)) }
-    requires spans_value { (apart spans.now ≡ true) × (ask.low ≤ ask.lo) × (ask.lo < 8589934592) × (ask.hi < 8589934592) }
+    requires spans_value { apart spans.now ≡ true }
     ensures { (t : Table) (p : ℕ) → Asked t p spans.now words.now ask.low ask.lo ask.hi ask.parts → out.new ≡ put at (met_bits t p ask.lo ask.hi) out.old }
 {
     let n = words.len() / 2;

@@ -9,10 +9,19 @@ ghost use Rattle.arrays.specs.Flat.{covers, Tells, cover_counts};
 ghost use Rattle.meets.specs.Pieces.{met_bits, has_bits};
 ghost use Rattle.meets.specs.Plan.{ValuesPlan};
 
-use crate::met::{Ask, put_met};
+use crate::ask::Ask;
+use crate::met::put_met;
 use arrays::element;
 use values::points::lowest_at;
 use words::bytes::{byte, read2};
+
+// An accepted table, the plan of its values, and its lists: first the bounds of the plan, from element 64 on the origins.
+#[derive(Clone, Copy)]
+pub struct Plan<'a> {
+    pub table: &'a [u8],
+    pub words: &'a [u64],
+    pub lists: &'a [u16],
+}
 
 // The lowest and the highest value of a point's type.
 #[derive(Clone, Copy)]
@@ -29,7 +38,7 @@ pub fn limits_of(t: &[u8], p: usize) -> Limits
     let low = lowest_at(t, point);
     let all = ranges::power(byte(t, point));
     Limits {
-        low: low,
+        low,
         high: low + all - 1,
     }
 }
@@ -44,39 +53,39 @@ pub struct Question {
 }
 
 // For each part of the point: whether it still holds a value from lo to hi.
-pub fn put_meets(out: &mut [u8], at: usize, t: &[u8], plan: &[u64], bounds: &[u16], q: Question)
-    requires t_value { (accepted t.now ≡ true) × (q.point < point_total (table_of t.now)) × ValuesPlan (table_of t.now) plan.now bounds.now }
-    requires parts_value { (q.parts ≡ length (covers (table_of t.now) q.point)) × (at + q.parts ≤ length out.old) × (in_type (point_at (table_of t.now) q.point) q.lo ≡ true) × (in_type (point_at (table_of t.now) q.point) q.hi ≡ true) }
-    ensures { out.new ≡ put at (met_bits (table_of t.now) q.point q.lo q.hi) out.old }
+pub fn put_meets(out: &mut [u8], at: usize, plan: Plan, q: Question)
+    requires t_value { (accepted plan.table.now ≡ true) × (q.point < point_total (table_of plan.table.now)) × ValuesPlan (table_of plan.table.now) plan.words.now plan.lists.now }
+    requires parts_value { (q.parts ≡ length (covers (table_of plan.table.now) q.point)) × (at + q.parts ≤ length out.old) × (in_type (point_at (table_of plan.table.now) q.point) q.lo ≡ true) × (in_type (point_at (table_of plan.table.now) q.point) q.hi ≡ true) }
+    ensures { out.new ≡ put at (met_bits (table_of plan.entry.table.now) q.point q.lo q.hi) out.old }
 {
     let p = q.point;
-    let from = element(bounds, 3 * p + 1) as usize;
-    let mid = element(bounds, 3 * p + 2) as usize;
-    let to = element(bounds, 3 * p + 3) as usize;
-    let l = limits_of(t, p);
+    let from = element(plan.lists, 3 * p + 1) as usize;
+    let mid = element(plan.lists, 3 * p + 2) as usize;
+    let to = element(plan.lists, 3 * p + 3) as usize;
+    let l = limits_of(plan.table, p);
     let ask = Ask {
         low: l.low,
         lo: q.lo,
         hi: q.hi,
         parts: q.parts,
     };
-    put_met(out, at, &plan[mid..to], &plan[from..mid], ask);
+    put_met(out, at, &plan.words[mid..to], &plan.words[from..mid], ask);
 }
 
 // For each part of point p: whether it still holds a value.
-fn put_has_at(out: &mut [u8], t: &[u8], plan: &[u64], bounds: &[u16], p: usize, parts: usize)
-    requires t_value { (accepted t.now ≡ true) × (p < point_total (table_of t.now)) × ValuesPlan (table_of t.now) plan.now bounds.now }
-    requires parts_value { (parts ≡ length (covers (table_of t.now) p)) × (256 * point_total (table_of t.now) ≤ length out.old) }
-    ensures { out.new ≡ put (256 * p) (has_bits (table_of t.now) p) out.old }
+fn put_has_at(out: &mut [u8], plan: Plan, p: usize, parts: usize)
+    requires t_value { (accepted plan.table.now ≡ true) × (p < point_total (table_of plan.table.now)) × ValuesPlan (table_of plan.table.now) plan.words.now plan.lists.now }
+    requires parts_value { (parts ≡ length (covers (table_of plan.table.now) p)) × (256 * point_total (table_of plan.table.now) ≤ length out.old) }
+    ensures { out.new ≡ put (256 * p) (has_bits (table_of plan.entry.table.now) p) out.old }
 {
-    let l = limits_of(t, p);
+    let l = limits_of(plan.table, p);
     let q = Question {
         point: p,
-        parts: parts,
+        parts,
         lo: l.low,
         hi: l.high,
     };
-    put_meets(out, 256 * p, t, plan, bounds, q);
+    put_meets(out, 256 * p, plan, q);
 }
 
 // Whether each cover bin still holds a value. counts has the number of cover bins of each point.
@@ -84,11 +93,14 @@ pub fn put_has(out: &mut [u8], t: &[u8], plan: &[u64], bounds: &[u16], counts: &
     requires { (accepted t.now ≡ true) × ValuesPlan (table_of t.now) plan.now bounds.now × (take (point_total (table_of t.now)) counts.now ≡ cover_counts (table_of t.now)) × (256 * point_total (table_of t.now) ≤ length out.old) }
     ensures { Tells (has_value (table_of t.now)) (table_of t.now) out.new × (length out.new ≡ length out.old) }
 {
+    let plan = Plan {
+        table: t,
+        words: plan,
+        lists: bounds,
+    };
     let n = read2(t, 0) as usize;
-    let mut p = 0;
-    while p < n {
+    for p in 0..n {
         let parts = element(counts, p) as usize;
-        put_has_at(out, t, plan, bounds, p, parts);
-        p += 1;
+        put_has_at(out, plan, p, parts);
     }
 }

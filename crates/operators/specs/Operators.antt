@@ -20,3 +20,7 @@ or_of n xs x = bit_or (get_or xs x 0) (get_or xs (n + x) 0)
 -- op 4 is and, any other is or
 unfoldable pub join_of : ℕ → ℕ → List ℕ → ℕ → ℕ
 join_of op n xs x = cond (eqb op 4) (and_of n xs x) (or_of n xs x)
+
+-- each of the first n elements is what the step makes of the one that stood there and of the one that stood n after it
+abbrev pub Combined : (ℕ → ℕ → ℕ → Type 0) → ℕ → List ℕ → List ℕ → Type 0
+Combined step n xs ys = (x : ℕ) → x < n → step (get_or xs x 0) (get_or xs (n + x) 0) (get_or ys x 0)

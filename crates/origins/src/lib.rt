@@ -31,10 +31,8 @@ pub fn put_origins(origins: &mut [u16], t: &[u8], parts: Parts)
 {
     let l = layout_of(t);
     let n = l.point_count;
-    let mut p = 0;
-    while p < n {
+    for p in 0..n {
         let own = part_of(parts, p);
         put_origins_at(origins, t, l, own, p);
-        p += 1;
     }
 }

@@ -5,12 +5,13 @@ ghost use Rattle.ranges.specs.Types.{Wide};
 ghost use Rattle.arrays.specs.Put.{put};
 ghost use Rattle.origins.specs.Points.{own_count, origins_in, first_of, point_origins};
 
-use arrays::put_same_u16;
+use arrays::put_same;
 use layout::Layout;
 use spans::collects::Bins;
 use values::counts::several_count;
 use values::points::{auto_total, has_auto, lowest_at};
 use words::bytes::{byte, read2};
+use words::kinds::Kind;
 
 // How many bins the value bin at b stands for, its ranges from r on; 0 where it is no cover bin of point p.
 fn own_count(t: &[u8], b: usize, r: usize, p: u8, low: u64) -> usize
@@ -21,8 +22,8 @@ fn own_count(t: &[u8], b: usize, r: usize, p: u8, low: u64) -> usize
     if q != p {
         return 0;
     }
-    let kind = byte(t, b + 1);
-    if kind != 0 {
+    let kind = Kind::from(byte(t, b + 1));
+    if kind != Kind::Cover {
         return 0;
     }
     let form = byte(t, b + 2);
@@ -45,18 +46,13 @@ fn put_listed(
     requires { (own.bins < 1000000000) × (own.ranges < 1000000000) × (first + own.count ≤ 512) × (low ≤ 8589934592) × (at + length (origins_in low p first (bins_at t.now own.bins own.ranges own.count)) ≤ length out.old) }
     ensures { (result ≡ at + length (origins_in low p first (bins_at t.now own.bins own.ranges own.count))) × (out.new ≡ put at (origins_in low p first (bins_at t.now own.bins own.ranges own.count)) out.old) }
 {
-    let n = own.count;
     let mut c = at;
-    let mut b = own.bins;
     let mut r = own.ranges;
-    let mut i: usize = 0;
-    while i < n {
+    for i in 0..own.count {
+        let b = own.bins + 8 * i;
         let m = own_count(t, b, r, p, low);
-        c = put_same_u16(out, c, m, (first + i) as u16);
-        let k = read2(t, b + 6);
-        b += 8;
-        r += 17 * k as usize;
-        i += 1;
+        c = put_same(out, c, m, (first + i) as u16);
+        r += 17 * read2(t, b + 6) as usize;
     }
     c
 }
@@ -73,5 +69,5 @@ pub fn put_point_origins(out: &mut [u16], at: usize, t: &[u8], l: Layout, own: B
     let m = auto_total(t, point, has);
     let first = (own.bins - l.bins) / 8;
     let e = put_listed(out, at, t, own, first, p, low);
-    put_same_u16(out, e, m, 65535)
+    put_same(out, e, m, 65535)
 }

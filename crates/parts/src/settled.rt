@@ -8,7 +8,7 @@ ghost use Rattle.spans.specs.Collected.{fits_from};
 ghost use Rattle.parts.specs.Rows.{settled_words, span_from, span_size};
 ghost use Rattle.parts.specs.Words.{row_words, bin_words};
 
-use crate::rows::{Deal, Ends, put_row};
+use crate::rows::{Deal, Range, put_row};
 use spans::collects::put_ranges;
 use spans::joins::settle;
 use spans::pairs::{high_end, low_end};
@@ -34,9 +34,7 @@ fn span_size(span: u64) -> u64
     requires { sound span ≡ true }
     ensures { result ≡ span_size span }
 {
-    let hi = high_end(span);
-    let lo = low_end(span);
-    hi + 1 - lo
+    high_end(span) + 1 - low_end(span)
 }
 
 // How many values some spans have.
@@ -45,10 +43,8 @@ pub fn sizes_of(spans: &[u64]) -> u64
     ensures { result ≡ sum_of span_size spans.now }
 {
     let mut sum: u64 = 0;
-    let mut i = 0;
-    while i < spans.len() {
-        sum += span_size(spans[i]);
-        i += 1;
+    for &span in spans {
+        sum += span_size(span);
     }
     sum
 }
@@ -58,14 +54,11 @@ fn put_span(out: &mut [u64], c: usize, span: u64, low: u64, before: u64, d: Deal
     requires { (low ≤ 2147483648) × (c + 7 ≤ length out.old) }
     ensures { out.new ≡ put c (row_words d.first d.last d.share before (span_from low span)) out.old }
 {
-    let lo = low_end(span);
-    let hi = high_end(span);
-    let e = Ends {
-        kind: 0,
-        low: low + lo,
-        high: low + hi,
+    let r = Range::Span {
+        low: low + low_end(span),
+        high: low + high_end(span),
     };
-    put_row(out, c, e, before, d);
+    put_row(out, c, r, before, d);
 }
 
 // The rows of some spans.
@@ -74,12 +67,9 @@ pub fn put_spans(out: &mut [u64], c: usize, spans: &[u64], low: u64, d: Deal) ->
     ensures { (result ≡ c + 7 * length spans.now) × (out.new ≡ put c (bin_words d.first d.last d.share 0 (map (span_from low) spans.now)) out.old) }
 {
     let mut before: u64 = 0;
-    let mut i = 0;
-    while i < spans.len() {
-        let span = spans[i];
+    for (i, &span) in spans.iter().enumerate() {
         put_span(out, c + 7 * i, span, low, before, d);
         before += span_size(span);
-        i += 1;
     }
-    c + 7 * i
+    c + 7 * spans.len()
 }

@@ -1,24 +1,24 @@
 -- Laws for the code that writes pieces: a piece's words read back, and what one cut, one row and the rows that are left stand for in words.
 -- Assumes nothing.
-use mathlib.Core.Path.{◌≡◌, refl, sym, ap, ap₂, ◌∙◌, subst}
+use mathlib.Core.Path.{◌≡◌, refl, sym, ap, ap₂, ◌∙◌}
 use mathlib.Core.Bool.{Bool, cond}
 use mathlib.Core.List.{List, [], ◌∷◌, ◌++◌}
 use Prim.Native.Nat.{ℕ, suc, ◌+◌, ◌-◌, ◌*◌, ◌/◌, ◌%◌, ◌^◌, ◌≤◌, ◌<◌, min}
 use native.Mathlib.Nat.{mul-le-mul_right, div-mul-le_self}
 use native.Mathlib.Omega.{arith}
 use lib.ListN.{length, get_or}
-use borrow.Author.Tests.{le-leb, lt-leb, lt-ltb, le-ltb, eq-eqb, ne_eqb}
+use borrow.Author.Tests.{le-leb, lt-leb, lt-ltb, le-ltb}
 use Rattle.model.specs.Table.{Range, span, pattern}
 use Rattle.model.specs.Raw.{rows}
 use Rattle.model.proofs.Lists.{none_left, one_left}
 use Rattle.arrays.specs.Put.{put}
 use Rattle.arrays.proofs.PutLaws.{put-before}
 use Rattle.arrays.proofs.Written.{Written, unwritten}
-use Rattle.parts.specs.Rows.{Row}
+use Rattle.parts.specs.Rows.{Row, row}
 use Rattle.parts.specs.Words.{plan_row_at, plan_rows_at}
 use Rattle.parts.proofs.Back.{row_same}
 use Rattle.meets.specs.Pieces.{Piece, piece, packed, high_in, part_above, piece_by}
-use Rattle.pieces.specs.Cuts.{left_of, step_at, cut_low, cut_high, cuts_from, pieces_in, row_pieces, all_pieces, range_words, piece_words, Bounded, Cuttable, row_of, CutsFit}
+use Rattle.pieces.specs.Cuts.{left_of, step_at, cut_low, cut_high, cuts_from, row_pieces, all_pieces, range_words, piece_words, Cuttable, CutsFit}
 
 -- ---- the second word of a piece
 
@@ -105,41 +105,29 @@ module _ (f : ℕ → ℕ) (lo hi before share first top j : ℕ) where
 
 -- ---- a row
 
-module _ (f : ℕ → ℕ) (kind lo hi before first last share from : ℕ) (start : from ≡ min (before / share) last) where
+module _ (f : ℕ → ℕ) (lo hi before first last share from : ℕ) (start : from ≡ min (before / share) last) where
   from_is : from ≡ step_at before share last 0
   from_is = start ∙ ap (λ (x : ℕ). min (x / share) last) (let z : before ≡ before + 0 = omega arith in z)
 
-  pub row_span : (top : ℕ) → kind ≡ 0 → top ≡ min ((before + (hi - lo)) / share) last
-      → piece_words (row_pieces f (row_of kind lo hi before first last share)) ≡ piece_words (cuts_from f lo hi before share first top from (top + 1 - from))
+  pub row_span : (top : ℕ) → top ≡ min ((before + (hi - lo)) / share) last
+      → piece_words (row_pieces f (row (span lo hi) before first last share)) ≡ piece_words (cuts_from f lo hi before share first top from (top + 1 - from))
   unfolding row_pieces
-  row_span top e t =
-      ap (λ (b : Bool). piece_words (pieces_in f (row_of kind lo hi before first last share) (cond b (span lo hi) (pattern lo hi)))) (eq-eqb kind 0 e)
-      ∙ ap₂ (λ (x y : ℕ). piece_words (cuts_from f lo hi before share first x y (x + 1 - y))) (sym t) (sym from_is)
+  row_span top t = ap₂ (λ (x y : ℕ). piece_words (cuts_from f lo hi before share first x y (x + 1 - y))) (sym t) (sym from_is)
 
-  pub row_pattern : (kind ≡ 0 → ⊥) → piece_words (row_pieces f (row_of kind lo hi before first last share)) ≡ lo ∷ packed hi (first + from + 65536) ∷ []
+  pub row_pattern : piece_words (row_pieces f (row (pattern lo hi) before first last share)) ≡ lo ∷ packed hi (first + from + 65536) ∷ []
   unfolding row_pieces piece_words
-  row_pattern e =
-      ap (λ (b : Bool). piece_words (pieces_in f (row_of kind lo hi before first last share) (cond b (span lo hi) (pattern lo hi)))) (ne_eqb kind 0 e)
-      ∙ ap (λ (x : ℕ). lo ∷ packed hi (first + x + 65536) ∷ []) (sym from_is)
+  row_pattern = ap (λ (x : ℕ). lo ∷ packed hi (first + x + 65536) ∷ []) (sym from_is)
 
-  pub row_mask : (low : ℕ) → Cuttable low (row_of kind lo hi before first last share) → (kind ≡ 0 → ⊥) → hi < 2 ^ 33
-  row_mask low cut e = subst (λ (b : Bool). Bounded low (cond b (span lo hi) (pattern lo hi))) (ne_eqb kind 0 e) cut.bounds
-
-  module _ (low : ℕ) (cut : Cuttable low (row_of kind lo hi before first last share)) (e : kind ≡ 0) where
-    pub row-bounds : (low ≤ lo) × (lo ≤ hi) × (hi < 2 ^ 33)
-    row-bounds = subst (λ (b : Bool). Bounded low (cond b (span lo hi) (pattern lo hi))) (eq-eqb kind 0 e) cut.bounds
-
-    pub row_fits : (top : ℕ) → top ≡ min ((before + (hi - lo)) / share) last → CutsFit lo hi before share first top
-    row_fits top t =
-        let b = row-bounds in
-        let z : top ≤ (before + (hi - lo)) / share = omega arith in
-        record {
-          order = b.1;
-          high = b.2;
-          small = cut.before;
-          most = omega (arith, mul-le-mul_right share z, div-mul-le_self (before + (hi - lo)) share);
-          room = omega (arith, cut.room);
-        }
+pub row_fits : (lo hi before first last share low : ℕ) → Cuttable low (row (span lo hi) before first last share) → (top : ℕ) → top ≡ min ((before + (hi - lo)) / share) last → CutsFit lo hi before share first top
+row_fits lo hi before first last share low cut top t =
+    let z : top ≤ (before + (hi - lo)) / share = omega arith in
+    record {
+      order = cut.bounds.1;
+      high = cut.bounds.2;
+      small = cut.before;
+      most = omega (arith, mul-le-mul_right share z, div-mul-le_self (before + (hi - lo)) share);
+      room = omega (arith, cut.room);
+    }
 
 -- ---- the rows
 

@@ -1,8 +1,10 @@
 -- The pieces of a point, cut from its rows: each span row at the borders of its parts, each cut from its first value that is left on.
 -- Assumes nothing.
-use Rattle.std.specs.Prelude.{ℕ, zero, suc, ◌+◌, ◌-◌, ◌*◌, ◌/◌, ◌^◌, ◌≤◌, ◌<◌, min, cond, List, [], ◌∷◌, ◌++◌, leb, ltb, eqb}
+use Rattle.std.specs.Prelude.{ℕ, zero, suc, ◌+◌, ◌-◌, ◌*◌, ◌/◌, ◌^◌, ◌≤◌, ◌<◌, min, cond, List, [], ◌∷◌, ◌++◌, leb, ltb}
 use Rattle.model.specs.Table.{Range, span, pattern}
 use Rattle.parts.specs.Rows.{Row, row}
+use Rattle.parts.specs.Words.{range_of}
+use Rattle.pieces.specs.declared.cuts.Row as code
 use Rattle.meets.specs.Pieces.{Piece, piece, packed}
 
 -- what is left of the span a to b of part k: f finds the first value from a number up that is left
@@ -64,9 +66,9 @@ pub record Cuttable (low : ℕ) (r : Row) : Type 0 where
   pub room : r.first + r.last < 65536
   pub bounds : Bounded low r.range
 
--- a row by its words
-abbrev pub row_of : ℕ → ℕ → ℕ → ℕ → ℕ → ℕ → ℕ → Row
-row_of kind a b before first last share = row (cond (eqb kind 0) (span a b) (pattern a b)) before first last share
+-- the code's row
+abbrev pub row_of : code.Row → Row
+row_of r = row (range_of r.range) r.before r.first r.last r.share
 
 -- what the code asks of a span row that has parts up to `top`
 pub record CutsFit (lo hi before share first top : ℕ) : Type 0 where

@@ -33,13 +33,9 @@ fn put_words(out: &mut [u64], at: usize, words: &[u64]) -> usize
     requires { at + length words.now ≤ length out.old }
     ensures { (result ≡ at + length words.now) × (out.new ≡ put at words.now out.old) }
 {
-    let n = words.len();
-    let mut i = 0;
-    while i < n {
-        out[at + i] = words[i];
-        i += 1;
-    }
-    at + n
+    let end = at + words.len();
+    out[at..end].copy_from_slice(words);
+    end
 }
 
 // Where a point's spans and its pieces begin, and where its plan ends.
@@ -69,8 +65,8 @@ fn put_by_rows(plan: &mut [u64], b: Built, spans: &[u64], t: &[u8], next: Next) 
     let end = put_pieces(plan, pieces, next.at, b.rows, spans, q.low);
     Ends {
         spans: mid,
-        pieces: pieces,
-        end: end,
+        pieces,
+        end,
     }
 }
 
@@ -109,71 +105,40 @@ fn put_all(
     let n = read2(t, 0) as usize;
     bounds[0] = 0;
     let mut at = 0;
-    let mut p = 0;
-    while p < n {
+    for p in 0..n {
         let own = part_of(parts, p);
-        let next = Next { point: p, at: at };
+        let next = Next { point: p, at };
         let r = put_point(plan, room, sorted, t, own, next);
         bounds[3 * p + 1] = r.spans as u16;
         bounds[3 * p + 2] = r.pieces as u16;
         bounds[3 * p + 3] = r.end as u16;
         at = r.end;
-        p += 1;
     }
 }
 
-// The same for a table of at most 64 ranges.
-fn put_small(plan: &mut [u64], bounds: &mut [u16], t: &[u8], parts: Parts)
-    requires { (accepted t.now ≡ true) × (plan_need (table_of t.now) ≤ length plan.old) × (49 ≤ length bounds.old) × (record_count t.now 2 ≤ 64) × OwnParts t.now parts }
+// The same for a table of at most N ranges. Its arrays stay out of its caller's frame (the bound on the stack).
+#[inline(never)]
+fn put_in<const N: usize>(plan: &mut [u64], bounds: &mut [u16], t: &[u8], parts: Parts)
+    requires { (accepted t.now ≡ true) × (plan_need (table_of t.now) ≤ length plan.old) × (49 ≤ length bounds.old) × (record_count t.now 2 ≤ N) × OwnParts t.now parts × (N ≤ 1024) }
     ensures { ValuesPlan (table_of t.now) plan.new bounds.new × (length plan.new ≡ length plan.old) × (length bounds.new ≡ length bounds.old) }
 {
-    let mut room = [0u64; 64];
-    let mut sorted = [0u64; 64];
+    let mut room = [0u64; N];
+    let mut sorted = [0u64; N];
     put_all(plan, bounds, &mut room, &mut sorted, t, parts);
 }
 
-// The same for a table of at most 256 ranges.
-fn put_medium(plan: &mut [u64], bounds: &mut [u16], t: &[u8], parts: Parts)
-    requires { (accepted t.now ≡ true) × (plan_need (table_of t.now) ≤ length plan.old) × (49 ≤ length bounds.old) × (record_count t.now 2 ≤ 256) × OwnParts t.now parts }
-    ensures { ValuesPlan (table_of t.now) plan.new bounds.new × (length plan.new ≡ length plan.old) × (length bounds.new ≡ length bounds.old) }
-{
-    let mut room = [0u64; 256];
-    let mut sorted = [0u64; 256];
-    put_all(plan, bounds, &mut room, &mut sorted, t, parts);
-}
-
-// The same for the largest table.
-fn put_largest(plan: &mut [u64], bounds: &mut [u16], t: &[u8], parts: Parts)
-    requires { (accepted t.now ≡ true) × (plan_need (table_of t.now) ≤ length plan.old) × (49 ≤ length bounds.old) × (record_count t.now 2 ≤ 1024) × OwnParts t.now parts }
-    ensures { ValuesPlan (table_of t.now) plan.new bounds.new × (length plan.new ≡ length plan.old) × (length bounds.new ≡ length bounds.old) }
-{
-    let mut room = [0u64; 1024];
-    let mut sorted = [0u64; 1024];
-    put_all(plan, bounds, &mut room, &mut sorted, t, parts);
-}
-
-// The same for a table of n ranges, by the first class from `class` on that has room. It calls itself, so that a class's arrays stay out of the others' frames.
-fn put_sized(plan: &mut [u64], bounds: &mut [u16], t: &[u8], n: usize, parts: Parts, class: usize)
+// The same for a table of n ranges, in the smallest room that is enough.
+fn put_sized(plan: &mut [u64], bounds: &mut [u16], t: &[u8], n: usize, parts: Parts)
     requires { (accepted t.now ≡ true) × (plan_need (table_of t.now) ≤ length plan.old) × (49 ≤ length bounds.old) × (n ≡ record_count t.now 2) × OwnParts t.now parts }
     ensures { ValuesPlan (table_of t.now) plan.new bounds.new × (length plan.new ≡ length plan.old) × (length bounds.new ≡ length bounds.old) }
 {
-    if class == 0 {
-        if n <= 64 {
-            put_small(plan, bounds, t, parts);
-            return;
-        }
-        put_sized(plan, bounds, t, n, parts, 1);
-        return;
+    if n <= 64 {
+        put_in::<64>(plan, bounds, t, parts);
+    } else if n <= 256 {
+        put_in::<256>(plan, bounds, t, parts);
+    } else {
+        put_in::<1024>(plan, bounds, t, parts);
     }
-    if class == 1 {
-        if n <= 256 {
-            put_medium(plan, bounds, t, parts);
-            return;
-        }
-        put_sized(plan, bounds, t, n, parts, 2);
-        return;
-    }
-    put_largest(plan, bounds, t, parts);
 }
 
 // The plan of all points, whose value bins are those of `parts`: the rows of point p from bound 3 p on, its spans from bound 3 p + 1 on, its pieces from bound 3 p + 2 to bound 3 p + 3.
@@ -182,5 +147,5 @@ pub fn put_plan(plan: &mut [u64], bounds: &mut [u16], t: &[u8], parts: Parts)
     ensures { ValuesPlan (table_of t.now) plan.new bounds.new × (length plan.new ≡ length plan.old) × (length bounds.new ≡ length bounds.old) }
 {
     let l = bin_sections(t);
-    put_sized(plan, bounds, t, l.range_count, parts, 0);
+    put_sized(plan, bounds, t, l.range_count, parts);
 }

@@ -8,15 +8,14 @@ ghost use Rattle.parts.specs.Words.{plan_row_at, plan_rows_at};
 ghost use Rattle.meets.specs.Pieces.{packed};
 ghost use Rattle.pieces.specs.Cuts.{left_of, cut_low, cut_high, cuts_from, row_pieces, all_pieces, piece_words, Cuttable, row_of, CutsFit};
 
-use ranges::next::{capped, less};
+use parts::rows::Range;
+use ranges::next::capped;
 use spans::lookup::free_value;
 
-// A row: kind (0: span), low end or bits, high end or mask, values listed before it in its bin, and its bin's first part, last part (counted from the first) and share.
+// A row: its range, the values listed before it in its bin, and its bin's first part, last part (counted from the first) and share.
 #[derive(Clone, Copy)]
 pub struct Row {
-    pub kind: u64,
-    pub low: u64,
-    pub high: u64,
+    pub range: Range,
     pub before: u64,
     pub first: u64,
     pub last: u64,
@@ -26,12 +25,17 @@ pub struct Row {
 // The row at at.
 fn row_at(w: &[u64], at: usize) -> Row
     requires { at + 7 ≤ length w.now }
-    ensures { row_of result.kind result.low result.high result.before result.first result.last result.share ≡ plan_row_at w.now at }
+    ensures { row_of result ≡ plan_row_at w.now at }
 {
+    let a = w[at + 1];
+    let b = w[at + 2];
+    let range = if w[at] == 0 {
+        Range::Span { low: a, high: b }
+    } else {
+        Range::Pattern { bits: a, mask: b }
+    };
     Row {
-        kind: w[at],
-        low: w[at + 1],
-        high: w[at + 2],
+        range,
         before: w[at + 3],
         first: w[at + 4],
         last: w[at + 5],
@@ -65,9 +69,10 @@ fn put_left(out: &mut [u64], at: usize, spans: &[u64], low: u64, c: Cut) -> usiz
 {
     let a = free_value(spans, low, c.low);
     if c.high < a {
-        return at;
+        at
+    } else {
+        put_piece(out, at, a, c.high, c.part)
     }
-    put_piece(out, at, a, c.high, c.part)
 }
 
 // A span row with the parts of its first and of its last value, counted from the bin's first part.
@@ -87,20 +92,20 @@ fn cut_at(c: Cuts, j: u64) -> Cut
     requires { CutsFit c.lo c.hi c.before c.share c.first c.top × (j ≤ c.top) }
     ensures { (result.low ≡ cut_low c.lo c.before c.share j) × (result.high ≡ cut_high c.lo c.hi c.before c.share c.top j) × (result.part ≡ c.first + j) × (c.lo ≤ result.low) × (result.low ≤ c.hi) × (result.high ≤ c.hi) }
 {
-    let low = c.lo + less(j * c.share, c.before);
+    let low = c.lo + (j * c.share).saturating_sub(c.before);
     let part = c.first + j;
     if j < c.top {
-        let next = c.lo + less((j + 1) * c.share, c.before);
+        let next = c.lo + ((j + 1) * c.share).saturating_sub(c.before);
         return Cut {
-            low: low,
-            high: less(next, 1),
-            part: part,
+            low,
+            high: next.saturating_sub(1),
+            part,
         };
     }
     Cut {
-        low: low,
+        low,
         high: c.hi,
-        part: part,
+        part,
     }
 }
 
@@ -111,36 +116,36 @@ fn put_cuts(out: &mut [u64], at: usize, spans: &[u64], low: u64, c: Cuts) -> usi
     ensures { (result ≡ at + length (piece_words (cuts_from (free_value spans.now low) c.lo c.hi c.before c.share c.first c.top c.from (c.top + 1 - c.from)))) × (out.new ≡ put at (piece_words (cuts_from (free_value spans.now low) c.lo c.hi c.before c.share c.first c.top c.from (c.top + 1 - c.from))) out.old) }
 {
     let mut e = at;
-    let mut j = c.from;
-    while j <= c.top {
+    for j in c.from..=c.top {
         let cut = cut_at(c, j);
         e = put_left(out, e, spans, low, cut);
-        j += 1;
     }
     e
 }
 
 // The pieces of a row.
 fn put_row(out: &mut [u64], at: usize, spans: &[u64], low: u64, r: Row) -> usize
-    requires spans_value { (apart spans.now ≡ true) × Cuttable low (row_of r.kind r.low r.high r.before r.first r.last r.share) }
-    requires share_in_bounds { at + length (piece_words (row_pieces (free_value spans.now low) (row_of r.kind r.low r.high r.before r.first r.last r.share))) ≤ length out.old }
-    ensures { (result ≡ at + length (piece_words (row_pieces (free_value spans.now low) (row_of r.kind r.low r.high r.before r.first r.last r.share)))) × (out.new ≡ put at (piece_words (row_pieces (free_value spans.now low) (row_of r.kind r.low r.high r.before r.first r.last r.share))) out.old) }
+    requires spans_value { (apart spans.now ≡ true) × Cuttable low (row_of r) }
+    requires share_in_bounds { at + length (piece_words (row_pieces (free_value spans.now low) (row_of r))) ≤ length out.old }
+    ensures { (result ≡ at + length (piece_words (row_pieces (free_value spans.now low) (row_of r)))) × (out.new ≡ put at (piece_words (row_pieces (free_value spans.now low) (row_of r))) out.old) }
 {
     let from = capped(r.before, r.share, r.last);
-    if r.kind != 0 {
-        return put_piece(out, at, r.low, r.high, r.first + from + 65536);
+    match r.range {
+        Range::Pattern { bits, mask } => { put_piece(out, at, bits, mask, r.first + from + 65536) }
+        Range::Span { low: lo, high: hi } => {
+            let top = capped(r.before + (hi - lo), r.share, r.last);
+            let c = Cuts {
+                lo,
+                hi,
+                before: r.before,
+                share: r.share,
+                first: r.first,
+                from,
+                top,
+            };
+            put_cuts(out, at, spans, low, c)
+        }
     }
-    let top = capped(r.before + (r.high - r.low), r.share, r.last);
-    let c = Cuts {
-        lo: r.low,
-        hi: r.high,
-        before: r.before,
-        share: r.share,
-        first: r.first,
-        from: from,
-        top: top,
-    };
-    put_cuts(out, at, spans, low, c)
 }
 
 // The pieces of the n rows that stand from `from` on, before at. Answers where they end.
@@ -157,11 +162,9 @@ pub fn put_pieces(
     ensures { (result ≡ at + 2 * length (all_pieces (free_value spans.now low) (plan_rows_at out.old from n))) × (out.new ≡ put at (piece_words (all_pieces (free_value spans.now low) (plan_rows_at out.old from n))) out.old) }
 {
     let mut e = at;
-    let mut i = 0;
-    while i < n {
+    for i in 0..n {
         let r = row_at(out, from + 7 * i);
         e = put_row(out, e, spans, low, r);
-        i += 1;
     }
     e
 }

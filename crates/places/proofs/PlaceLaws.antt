@@ -9,12 +9,13 @@ use native.Mathlib.Omega.{arith}
 use lib.Dec.{leb, eqb}
 use borrow.Author.Tests.{leb-true, leb-false, le-leb, eq-eqb, ne_eqb, eqb-true}
 use native.Mathlib.Numerals.{add-one}
-use lib.Seq.{drop-cons, get_or-take}
+use lib.Seq.{drop-cons}
 use lib.ListN.{length, get_or, take, drop, drop_of_length-le, length-take}
 use Rattle.model.specs.Lists.{one_of}
 use Rattle.model.proofs.Readers.{All}
 use Rattle.model.proofs.Booleans.{false-true, and_left, and_right}
-use Rattle.arrays.proofs.Written.{Written, written-room}
+use Rattle.arrays.specs.Put.{put}
+use Rattle.arrays.proofs.Written.{Written, written-room, written-turn}
 use Rattle.places.specs.Places.{place_if, places_from, ascending}
 
 -- one list after the other
@@ -110,15 +111,19 @@ module _ (f : ℕ → Bool) (base n : ℕ) (flags : List ℕ) where
   pub set_few : length (places_from f base (take n flags)) ≤ n
   set_few = omega (arith, places-few f base (take n flags), length-take n flags)
 
-  pub set_turn : (i : ℕ) → i < n → n ≤ length flags → places_from f (base + i) (drop i (take n flags)) ≡ place_if (f (get_or flags i 0)) (base + i) ++ places_from f (base + (i + 1)) (drop (i + 1) (take n flags))
-  set_turn i h k =
-      places_turn f base (take n flags) 0 i (omega (arith, length-take n flags))
-      ∙ ap (λ (x : ℕ). place_if (f x) (base + i) ++ places_from f (base + (i + 1)) (drop (i + 1) (take n flags))) (get_or-take n flags i 0 h)
+-- ---- written one after the other
+
+module _ (f : ℕ → Bool) (base : ℕ) (xs out₀ : List ℕ) (fit : length (places_from f base xs) ≤ length out₀) (i c : ℕ) (out : List ℕ) (h : i < length xs)
+    (inv : Written 0 (places_from f base xs) out₀ c out (places_from f (base + i) (drop i xs))) (b : Bool) (e : b ≡ f (get_or xs i 0)) where
+  next : places_from f (base + i) (drop i xs) ≡ place_if b (base + i) ++ places_from f (base + (i + 1)) (drop (i + 1) xs)
+  next = places_turn f base xs 0 i h ∙ ap (λ (x : Bool). place_if x (base + i) ++ places_from f (base + (i + 1)) (drop (i + 1) xs)) (sym e)
 
   -- the next fits where all do
-  pub turn_room : (i c : ℕ) (out₀ out : List ℕ) → i < n → n ≤ length flags → length (places_from f base (take n flags)) ≤ length out₀
-      → Written 0 (places_from f base (take n flags)) out₀ c out (places_from f (base + i) (drop i (take n flags))) → c + length (place_if (f (get_or flags i 0)) (base + i)) ≤ length out
-  turn_room i c out₀ out h k fit inv = written-room 0 (places_from f base (take n flags)) out₀ c out (places_from f (base + i) (drop i (take n flags))) inv (omega arith) (place_if (f (get_or flags i 0)) (base + i)) (places_from f (base + (i + 1)) (drop (i + 1) (take n flags))) (set_turn i h k)
+  pub place_room : c + length (place_if b (base + i)) ≤ length out
+  place_room = written-room 0 (places_from f base xs) out₀ c out (places_from f (base + i) (drop i xs)) inv (omega arith) (place_if b (base + i)) (places_from f (base + (i + 1)) (drop (i + 1) xs)) next
+
+  pub place_turn : (d : ℕ) (l : List ℕ) → d ≡ c + length (place_if b (base + i)) → l ≡ put c (place_if b (base + i)) out → Written 0 (places_from f base xs) out₀ d l (places_from f (base + (i + 1)) (drop (i + 1) xs))
+  place_turn = written-turn 0 (places_from f base xs) out₀ c out (places_from f (base + i) (drop i xs)) inv (omega arith) (place_if b (base + i)) (places_from f (base + (i + 1)) (drop (i + 1) xs)) next
 
 -- ---- in ascending order
 

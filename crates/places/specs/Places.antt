@@ -20,6 +20,10 @@ places_from f n (x ∷ xs) = cond (f x) (n ∷ places_from f (suc n) xs) (places
 abbrev pub is_set : ℕ → Bool
 is_set x = eqb x 1
 
+-- what a byte's test answers is g
+abbrev pub Decides : (ℕ → Bool → Type 0) → (ℕ → Bool) → Type 0
+Decides post g = (x : ℕ) (b : Bool) → x < 256 → post x b → b ≡ g x
+
 -- the kinds of counters (Flat's kind_of) that a list may be of: 0 cover bins, 1 default and illegal value bins, 2 all illegal ones
 abbrev pub of_kind : ℕ → ℕ → Bool
 of_kind which k = (eqb which 0 && eqb k 0) || ((eqb which 1 && (eqb k 1 || eqb k 2)) || (eqb which 2 && (eqb k 2 || (eqb k 4 || eqb k 6))))

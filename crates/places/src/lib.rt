@@ -3,9 +3,9 @@
 
 pub mod raises;
 
-ghost use Rattle.std.specs.Prelude.{◌≡◌, ◌≤◌, ◌+◌, length, take};
+ghost use Rattle.std.specs.Prelude.{◌≡◌, ◌≤◌, ◌+◌, Bool, ℕ, length};
 ghost use Rattle.arrays.specs.Put.{put};
-ghost use Rattle.places.specs.Places.{is_set, of_kind, place_if, places_from};
+ghost use Rattle.places.specs.Places.{Decides, is_set, of_kind, place_if, places_from};
 
 // A place, if b says so. Answers where the next one stands.
 pub fn put_if(out: &mut [u16], at: usize, b: bool, place: usize) -> usize
@@ -19,40 +19,59 @@ pub fn put_if(out: &mut [u16], at: usize, b: bool, place: usize) -> usize
     at
 }
 
-// The places of the flags that are set among n, the first of which has place base. Answers how many they are.
-pub fn put_set(out: &mut [u16], flags: &[u8], n: usize, base: usize) -> usize
-    requires { (n ≤ length flags.now) × (length (places_from is_set base (take n flags.now)) ≤ length out.old) × (base + n ≤ 65535) }
-    ensures { (result ≡ length (places_from is_set base (take n flags.now))) × (out.new ≡ put 0 (places_from is_set base (take n flags.now)) out.old) }
+// The places of the bytes that f takes, the first of which has place base. Answers how many they are.
+fn put_where<F: Fn(u8) -> bool>(out: &mut [u16], xs: &[u8], base: usize, f: F) -> usize
+    ghost g: { ℕ → Bool }
+    requires callable { F.IsAlwaysCallable f }
+    requires decides { Decides (F.post f) g }
+    requires room { length (places_from g base xs.now) ≤ length out.old }
+    requires small { base + length xs.now ≤ 65535 }
+    ensures count { result ≡ length (places_from g base xs.now) }
+    ensures places { out.new ≡ put 0 (places_from g base xs.now) out.old }
 {
     let mut c = 0;
-    let mut i = 0;
-    while i < n {
-        c = put_if(out, c, flags[i] == 1, base + i);
-        i += 1;
+    for (i, x) in xs.iter().enumerate() {
+        c = put_if(out, c, f(*x), base + i);
     }
     c
 }
 
-// The kind is one of those.
-fn of_kind(which: u8, k: u8) -> bool
-    ensures { result ≡ of_kind which k }
+// The places of the flags that are set, the first of which has place base. Answers how many they are.
+pub fn put_set(out: &mut [u16], flags: &[u8], base: usize) -> usize
+    requires room { length (places_from is_set base flags.now) ≤ length out.old }
+    requires small { base + length flags.now ≤ 65535 }
+    ensures count { result ≡ length (places_from is_set base flags.now) }
+    ensures places { out.new ≡ put 0 (places_from is_set base flags.now) out.old }
 {
-    let illegal = (k == 2) | ((k == 4) | (k == 6));
-    let plain = (k == 1) | (k == 2);
-    ((which == 0) & (k == 0)) | (((which == 1) & plain) | ((which == 2) & illegal))
+    put_where(out, flags, base, |x| x == 1)
 }
 
-// The places of the counters of those kinds among n, the first of which has place base. Answers how many they are.
-pub fn put_of_kind(out: &mut [u16], kinds: &[u8], n: usize, base: usize, which: u8) -> usize
-    requires { (n ≤ length kinds.now) × (length (places_from (of_kind which) base (take n kinds.now)) ≤ length out.old) × (base + n ≤ 65535) }
-    ensures { (result ≡ length (places_from (of_kind which) base (take n kinds.now))) × (out.new ≡ put 0 (places_from (of_kind which) base (take n kinds.now)) out.old) }
+// The places of the cover bins among the kinds of counters, the first of which has place base. Answers how many they are.
+pub fn put_covers(out: &mut [u16], kinds: &[u8], base: usize) -> usize
+    requires room { length (places_from (of_kind 0) base kinds.now) ≤ length out.old }
+    requires small { base + length kinds.now ≤ 65535 }
+    ensures count { result ≡ length (places_from (of_kind 0) base kinds.now) }
+    ensures places { out.new ≡ put 0 (places_from (of_kind 0) base kinds.now) out.old }
 {
-    let mut c = 0;
-    let mut i = 0;
-    while i < n {
-        let b = of_kind(which, kinds[i]);
-        c = put_if(out, c, b, base + i);
-        i += 1;
-    }
-    c
+    put_where(out, kinds, base, |k| k == 0)
+}
+
+// Those of the default bins and the illegal value bins.
+pub fn put_plains(out: &mut [u16], kinds: &[u8], base: usize) -> usize
+    requires room { length (places_from (of_kind 1) base kinds.now) ≤ length out.old }
+    requires small { base + length kinds.now ≤ 65535 }
+    ensures count { result ≡ length (places_from (of_kind 1) base kinds.now) }
+    ensures places { out.new ≡ put 0 (places_from (of_kind 1) base kinds.now) out.old }
+{
+    put_where(out, kinds, base, |k| (k == 1) | (k == 2))
+}
+
+// Those of all illegal counters.
+pub fn put_illegals(out: &mut [u16], kinds: &[u8], base: usize) -> usize
+    requires room { length (places_from (of_kind 2) base kinds.now) ≤ length out.old }
+    requires small { base + length kinds.now ≤ 65535 }
+    ensures count { result ≡ length (places_from (of_kind 2) base kinds.now) }
+    ensures places { out.new ≡ put 0 (places_from (of_kind 2) base kinds.now) out.old }
+{
+    put_where(out, kinds, base, |k| (k == 2) | ((k == 4) | (k == 6)))
 }

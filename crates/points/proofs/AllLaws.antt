@@ -5,21 +5,22 @@ use mathlib.Core.Bool.{true}
 use mathlib.Core.List.{List, [], ◌++◌, map, map-append}
 use Prim.Native.Nat.{ℕ, zero, suc, ◌+◌, ◌-◌, ◌*◌, ◌^◌, ◌≤◌, ◌<◌}
 use native.Mathlib.Omega.{arith}
-use lib.Dec.{eqb}
 use lib.ListN.{length, get_or, take, length-append}
 use lib.Seq.{get_or-take}
-use borrow.Author.Tests.{eq-eqb, ne_eqb}
 use Rattle.model.specs.Lists.{up_from, concat_of}
 use Rattle.model.specs.Table.{Table}
 use Rattle.model.specs.Counters.{Counter, point_counters}
-use Rattle.model.specs.Sampling.{Reading, skipped, unknown, known, reading, is_skipped}
+use Rattle.model.specs.Sampling.{Reading, reading, is_skipped}
 use Rattle.model.specs.Format.{accepted, table_of}
 use Rattle.model.specs.Register.{point_total, in_widths}
 use Rattle.model.proofs.Sections.{accepted-layout, accepted_decodes}
 use Rattle.model.proofs.AccessTransitions.{transitions_access}
 use Rattle.model.proofs.Lists.{from_step, from_end, get_d-row}
 use Rattle.model.proofs.RawExact.{few_points}
-use Rattle.arrays.specs.Flat.{all_point_counters, reading_code, reading_codes}
+use Rattle.arrays.specs.Flat.{all_point_counters, reading_code, reading_codes, reading_from}
+use Rattle.arrays.specs.declared.reading.Reading as code
+use Rattle.arrays.specs.declared.reading.Reading.TheVariants.{Skipped}
+use Rattle.arrays.proofs.FlatLaws.{from_code}
 use Rattle.values.proofs.PointExact.{few_counters}
 use Rattle.layout.specs.declared.Layout.{Layout}
 use Rattle.layout.specs.Places.{layout_of}
@@ -27,10 +28,8 @@ use Rattle.layout.proofs.PlaceLaws.{points-total}
 
 -- ---- one point
 
-pub skip_code : (r : Reading) (code : ℕ) → code ≡ reading_code r → (r ≡ known code → code < 8589934592) → eqb code 8589934592 ≡ is_skipped r
-skip_code skipped code e h = eq-eqb code 8589934592 e
-skip_code unknown code e h = ne_eqb code 8589934592 (λ z. omega arith)
-skip_code (known v) code e h = let k : code < 8589934592 = h (ap known (sym e)) in ne_eqb code 8589934592 (λ z. omega arith)
+pub skip_code : (r : Reading) (x : code.Reading) → x ≡ reading_code r → is_skipped (reading_from x) ≡ is_skipped r
+skip_code r x e = ap (λ (y : code.Reading). is_skipped (reading_from y)) e ∙ ap is_skipped (from_code r)
 
 module _ (s w lens : List ℕ) (ok : accepted s ≡ true) (widths : in_widths (table_of s) w ≡ true) (words : (j : ℕ) → get_or lens j 0 < 2 ^ 32) (p : ℕ) (inside : p < point_total (table_of s)) where
   pub few_bins : length (table_of s).transition_bins ≤ 64
@@ -53,9 +52,9 @@ points-all f t n e = ap (λ (m : ℕ). map f (concat_of (point_counters t) (up_f
 
 -- ---- the readings
 
-pub code_read : (t : Table) (w a : List ℕ) (p : ℕ) → take (point_total t) a ≡ reading_codes t w → p < point_total t → get_or a p 0 ≡ reading_code (reading t w p)
+pub code_read : (t : Table) (w : List ℕ) (a : List code.Reading) (p : ℕ) → take (point_total t) a ≡ reading_codes t w → p < point_total t → get_or a p Skipped ≡ reading_code (reading t w p)
 unfolding reading_codes
-code_read t w a p e h = sym (get_or-take (point_total t) a p 0 h) ∙ ap (λ (x : List ℕ). get_or x p 0) e ∙ get_d-row (λ q. reading_code (reading t w q)) 0 (point_total t) p 0 h ∙ ap (λ (q : ℕ). reading_code (reading t w q)) (let z : 0 + p ≡ p = omega arith in z)
+code_read t w a p e h = sym (get_or-take (point_total t) a p Skipped h) ∙ ap (λ (x : List code.Reading). get_or x p Skipped) e ∙ get_d-row (λ q. reading_code (reading t w q)) 0 (point_total t) p Skipped h ∙ ap (λ (q : ℕ). reading_code (reading t w q)) (let z : 0 + p ≡ p = omega arith in z)
 
 module _ (s : List ℕ) (ok : accepted s ≡ true) where
   pub point_number : (l : Layout) → l ≡ layout_of s → (l.point_count ≡ point_total (table_of s)) × (point_total (table_of s) ≤ 16)

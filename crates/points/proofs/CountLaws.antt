@@ -1,21 +1,23 @@
 -- How many cover bins a point has, by the kinds of its counters.
 -- Assumes nothing.
-use mathlib.Core.Path.{◌≡◌, refl, ap, ◌∙◌}
+use mathlib.Core.Path.{◌≡◌, refl, sym, ap, ap₂, ◌∙◌}
 use mathlib.Core.Bool.{Bool, true, false, cond}
 use mathlib.Core.List.{List, [], ◌∷◌, map}
 use Prim.Native.Nat.{ℕ, zero, suc, ◌+◌, ◌-◌, ◌≤◌, ◌<◌}
 use native.Mathlib.Omega.{arith}
 use lib.Dec.{eqb}
-use lib.ListN.{length, get_or, length-append, length-map}
+use lib.ListN.{length, get_or, take, drop, length-append, length-map}
+use Rattle.std.specs.List.{count_by}
+use Rattle.std.proofs.lemmas.List.Sums.{sum_by-cons}
 use lib.Seq.{take_all}
 use Rattle.model.specs.Lists.{up_from, as_bit}
 use Rattle.model.specs.Table.{Table}
 use Rattle.model.specs.Counters.{Counter, point_counters}
 use Rattle.model.specs.Register.{point_total}
-use Rattle.model.proofs.Lists.{from_step, from_end}
+use Rattle.model.proofs.Lists.{head_tail, from_step, from_end}
 use Rattle.arrays.specs.Flat.{covers, cover_counts, all_point_counters, point_start}
 use Rattle.points.specs.Gates.{pick_one, picked, Kinded, Flagged}
-use Rattle.points.proofs.GateLaws.{picked_covers, picked_turn}
+use Rattle.points.proofs.GateLaws.{picked_covers}
 
 -- ---- what is picked, counted
 
@@ -32,11 +34,20 @@ picked-long kinds xs ys i zero = refl
 picked-long kinds xs ys i (suc n) =
     omega (arith, length-append (pick_one (get_or kinds i 0) (get_or xs i 0)) (picked kinds xs (i + 1) n), length-append (pick_one (get_or kinds i 0) (get_or ys i 0)) (picked kinds ys (i + 1) n), pick-long (get_or kinds i 0) (get_or xs i 0) (get_or ys i 0), picked-long kinds xs ys (i + 1) n)
 
-pub count_turn : (kinds : List ℕ) (from n i c d : ℕ) → i < n → d ≡ c + length (pick_one (get_or kinds (from + i) 0) (get_or kinds (from + i) 0))
-    → d + length (picked kinds kinds (from + (i + 1)) (n - (i + 1))) ≡ c + length (picked kinds kinds (from + i) (n - i))
-count_turn kinds from n i c d h e =
-    let k = get_or kinds (from + i) 0 in
-    omega (arith, e, ap length (picked_turn kinds kinds from n i h), length-append (pick_one k k) (picked kinds kinds (from + (i + 1)) (n - (i + 1))))
+-- as many as are 0
+pub counted_in : (kinds : List ℕ) (from n : ℕ) → from + n ≤ length kinds → count_by (λ k. eqb k 0) (take n (drop from kinds)) ≡ length (picked kinds kinds from n)
+unfolding picked
+counted_in kinds from zero h = refl
+counted_in kinds from (suc n) h =
+    let k = get_or kinds from 0 in
+    ap (λ (l : List ℕ). count_by (λ x. eqb x 0) (take (suc n) l)) (head_tail kinds from 0 (omega arith))
+    ∙ sum_by-cons (λ x. cond (eqb x 0) 1 0) k (take n (drop (from + 1) kinds))
+    ∙ ap₂ ◌+◌ (one (eqb k 0)) (counted_in kinds (from + 1) n (omega arith))
+    ∙ sym (length-append (pick_one k k) (picked kinds kinds (from + 1) n))
+  where
+    one : (b : Bool) → cond b 1 0 ≡ length (cond b (get_or kinds from 0 ∷ []) [])
+    one true = refl
+    one false = refl
 
 -- every counter flagged
 abbrev ones : Counter → ℕ

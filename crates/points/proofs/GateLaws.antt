@@ -8,20 +8,12 @@ use native.Mathlib.Omega.{arith}
 use lib.Dec.{eqb}
 use lib.ListN.{length, get_or, take, length-append, length-map, length-take, get_or-append}
 use lib.Seq.{get_or-take, get_or-append-add}
-use borrow.Author.Tests.{eq-eqb, ne_eqb}
 use Rattle.model.specs.Lists.{up_from, concat_of, as_bit}
 use Rattle.model.specs.Table.{Table}
 use Rattle.model.specs.Counters.{Counter, value_bin, default_bin, illegal_bin, transition, illegal_transition, cross_bin, illegal_cross, product, point_counters, cover_bins}
 use Rattle.model.specs.Register.{point_total}
-use Rattle.model.proofs.Lists.{one_left, none_left}
 use Rattle.arrays.specs.Flat.{kind_of, kinds_of, all_point_counters, point_start, covers}
 use Rattle.points.specs.Gates.{pick_one, picked, Kinded, Flagged}
-
-pub pick-none : (k x : ℕ) → (k ≡ 0 → ⊥) → pick_one k x ≡ []
-pick-none k x h = ap (λ (b : Bool). cond b (x ∷ []) []) (ne_eqb k 0 h)
-
-pub pick_one_lem : (k x : ℕ) → k ≡ 0 → pick_one k x ≡ x ∷ []
-pick_one_lem k x h = ap (λ (b : Bool). cond b (x ∷ []) []) (eq-eqb k 0 h)
 
 pub pick-most : (k x : ℕ) → length (pick_one k x) ≤ 1
 pick-most k x = go (eqb k 0)
@@ -29,20 +21,6 @@ pick-most k x = go (eqb k 0)
     go : (b : Bool) → length (cond b (x ∷ []) []) ≤ 1
     go true = omega arith
     go false = omega arith
-
-module _ (kinds xs : List ℕ) (from n i : ℕ) where
-  pub picked_turn : i < n → picked kinds xs (from + i) (n - i) ≡ pick_one (get_or kinds (from + i) 0) (get_or xs (from + i) 0) ++ picked kinds xs (from + (i + 1)) (n - (i + 1))
-  unfolding picked
-  picked_turn h =
-      ap (picked kinds xs (from + i)) (one_left n i h)
-      ∙ ap (λ (j : ℕ). pick_one (get_or kinds (from + i) 0) (get_or xs (from + i) 0) ++ picked kinds xs j (n - (i + 1))) (let z : from + i + 1 ≡ from + (i + 1) = omega arith in z)
-
-  pub picked_end : n ≤ i → picked kinds xs (from + i) (n - i) ≡ []
-  unfolding picked
-  picked_end h = ap (picked kinds xs (from + i)) (none_left n i h)
-
-pub picked-start : (kinds xs : List ℕ) (from n : ℕ) → picked kinds xs (from + 0) (n - 0) ≡ picked kinds xs from n
-picked-start kinds xs from n = ap₂ (picked kinds xs) (let z : from + 0 ≡ from = omega arith in z) (let z : n - 0 ≡ n = omega arith in z)
 
 pub picked-few : (kinds xs : List ℕ) (n i : ℕ) → length (picked kinds xs i n) ≤ n
 unfolding picked

@@ -1,24 +1,15 @@
 -- Laws for the code over kinds of counters.
 -- Assumes nothing.
 use mathlib.Core.Path.{◌≡◌, refl, sym, ap, ◌∙◌}
-use mathlib.Core.Bool.{Bool, cond}
-use mathlib.Core.List.{List, [], ◌∷◌, ◌++◌}
+use mathlib.Core.List.{List, [], ◌++◌}
 use Prim.Native.Nat.{ℕ, zero, suc, ◌+◌, ◌-◌, ◌*◌, ◌≤◌, ◌<◌}
-use native.Mathlib.Omega.{arith}
-use lib.ListN.{replicate}
 use borrow.Author.Tests.{eq-eqb, ne_eqb}
+use Rattle.model.specs.Table.{Kind}
 use Rattle.model.specs.Format.{byte, u16, kind_from}
 use Rattle.model.specs.Raw.{bin_at, bins_at}
 use Rattle.model.proofs.Lists.{one_left, none_left}
-use Rattle.values.specs.Counts.{cover_count}
 use Rattle.values.proofs.Laws.{bins_step, bins_end}
-use Rattle.points.specs.Kinds.{kinds_by, plain_kind, bin_kinds, kinds_in, transition_kind, transition_kinds, transition_kinds_from}
-
-pub kind-two : (k : ℕ) → k ≡ 2 → 2 ≡ plain_kind k
-kind-two k e = sym (ap (λ (b : Bool). cond b 2 1) (eq-eqb k 2 e))
-
-pub kind_one : (k : ℕ) → (k ≡ 2 → ⊥) → 1 ≡ plain_kind k
-kind_one k e = sym (ap (λ (b : Bool). cond b 2 1) (ne_eqb k 2 e))
+use Rattle.points.specs.Kinds.{kinds_by, bin_kinds, kinds_in, transition_kind, transition_kinds, transition_kinds_from}
 
 -- ---- one value bin
 
@@ -32,20 +23,8 @@ module _ (low p : ℕ) (s : List ℕ) (a r q : ℕ) (eq : q ≡ byte s a) where
     unfolding bin_kinds
     this-bin = rw (← eq, eq-eqb q p same, ek)
 
-    pub ignore-bin : k ≡ 1 → bin_kinds low p (bin_at s a r) ≡ []
-    ignore-bin e = this-bin ∙ ap (λ (z : ℕ). kinds_by low (kind_from z) (bin_at s a r)) e
-
-    pub cover-bin : k ≡ 0 → bin_kinds low p (bin_at s a r) ≡ replicate (cover_count low (bin_at s a r).form (bin_at s a r).ranges) 0
-    cover-bin e = this-bin ∙ ap (λ (z : ℕ). kinds_by low (kind_from z) (bin_at s a r)) e
-
-    pub plain-bin : (x : ℕ) → (k ≡ 0 → ⊥) → (k ≡ 1 → ⊥) → x ≡ plain_kind k → bin_kinds low p (bin_at s a r) ≡ x ∷ []
-    plain-bin x n₀ n₁ ex = this-bin ∙ go k n₀ n₁ ∙ ap (◌∷ []) (sym ex)
-      where
-        go : (k : ℕ) → (k ≡ 0 → ⊥) → (k ≡ 1 → ⊥) → kinds_by low (kind_from k) (bin_at s a r) ≡ plain_kind k ∷ []
-        go zero n₀ n₁ = absurd (n₀ refl)
-        go (suc zero) n₀ n₁ = absurd (n₁ refl)
-        go (suc (suc zero)) n₀ n₁ = refl
-        go (suc (suc (suc k))) n₀ n₁ = ap (◌∷ []) (kind_one (suc (suc (suc k))) (λ e. omega arith))
+    pub kind-bin : (x : Kind) → x ≡ kind_from k → bin_kinds low p (bin_at s a r) ≡ kinds_by low x (bin_at s a r)
+    kind-bin x e = this-bin ∙ ap (λ (z : Kind). kinds_by low z (bin_at s a r)) (sym e)
 
 module _ (low p : ℕ) (s : List ℕ) (a r n i : ℕ) where
   pub kinds_turn : (k : ℕ) → i < n → k ≡ u16 s (a + 8 * i + 6) → kinds_in low p (bins_at s (a + 8 * i) r (n - i)) ≡ bin_kinds low p (bin_at s (a + 8 * i) r) ++ kinds_in low p (bins_at s (a + 8 * (i + 1)) (r + 17 * k) (n - (i + 1)))
@@ -68,11 +47,8 @@ module _ (s : List ℕ) (p at q : ℕ) (eq : q ≡ byte s at) where
     unfolding transition_kinds
     this-transition = rw (← eq, eq-eqb q p same, ek)
 
-    pub cover-transition : k ≡ 0 → transition_kinds s p at ≡ 3 ∷ []
-    cover-transition e = this-transition ∙ ap (λ (z : ℕ). transition_kind (kind_from z)) e
-
-    pub illegal-transition : k ≡ 2 → transition_kinds s p at ≡ 4 ∷ []
-    illegal-transition e = this-transition ∙ ap (λ (z : ℕ). transition_kind (kind_from z)) e
+    pub kind-transition : (x : Kind) → x ≡ kind_from k → transition_kinds s p at ≡ transition_kind x
+    kind-transition x e = this-transition ∙ ap transition_kind (sym e)
 
     pub ignore-transition : (k ≡ 0 → ⊥) → (k ≡ 2 → ⊥) → transition_kinds s p at ≡ []
     ignore-transition n₀ n₂ = this-transition ∙ go k n₀ n₂

@@ -24,6 +24,8 @@ use Rattle.model.proofs.RawExact.{many_points, few_points}
 use Rattle.ranges.specs.Types.{typed}
 use Rattle.arrays.specs.Put.{put}
 use Rattle.arrays.specs.Flat.{reading_code, reading_codes}
+use Rattle.arrays.specs.declared.reading.Reading as code
+use Rattle.arrays.specs.declared.reading.Reading.TheVariants.{Skipped, Unknown, Known}
 use Rattle.arrays.proofs.PutLaws.{put-nil, put-cons}
 use Rattle.values.proofs.PointExact.{point_raw}
 use Rattle.values.proofs.Ready.{wide}
@@ -36,31 +38,31 @@ module _ (s w : List ℕ) (at p g : ℕ) (y : Bool) (eg : g ≡ byte s (at + 2))
   guard_is : (b : Bool) → y ≡ b → guard_true w (point_record s at).guard ≡ b
   guard_is b e = ap (λ (k : ℕ). guard_true w (guard_from k)) (sym eg) ∙ sym ey ∙ e
 
-  pub code_skipped : not y ≡ true → 8589934592 ≡ code_at s w at p
+  pub code_skipped : not y ≡ true → Skipped ≡ code_at s w at p
   unfolding code_at
   code_skipped e = rw (guard_is false (not-true y e))
 
   module _ (u : ℕ) (eu : u ≡ unknown_word w p) (e : not y ≡ false) where
-    pub code_unknown : (u ≡ 0 → ⊥) → 8589934593 ≡ code_at s w at p
+    pub code_unknown : (u ≡ 0 → ⊥) → Unknown ≡ code_at s w at p
     unfolding code_at
     code_unknown z = rw (guard_is true (not-false y e), ne_eqb (unknown_word w p) 0 (λ h. z (eu ∙ h)))
 
-    pub code-known : (x width sign r : ℕ) → u ≡ 0 → x ≡ value_word w p → width ≡ byte s at → sign ≡ byte s (at + 1) → r ≡ read_value (typed width (eqb sign 1)) x → r ≡ code_at s w at p
+    pub code-known : (x width sign r : ℕ) → u ≡ 0 → x ≡ value_word w p → width ≡ byte s at → sign ≡ byte s (at + 1) → r ≡ read_value (typed width (eqb sign 1)) x → Known r ≡ code_at s w at p
     unfolding code_at
-    code-known x width sign r z ex ew es er = rw (guard_is true (not-false y e), eq-eqb (unknown_word w p) 0 (sym eu ∙ z)) (er ∙ rw (ex, ew, es))
+    code-known x width sign r z ex ew es er = rw (guard_is true (not-false y e), eq-eqb (unknown_word w p) 0 (sym eu ∙ z)) (ap Known (er ∙ rw (ex, ew, es)))
 
 pub ruleset codes = (rules, code_skipped, code_unknown, code-known)
 
 -- ---- all readings
 
 module _ (s w : List ℕ) (at n i : ℕ) where
-  pub codes_turn : (r : ℕ) (l : List ℕ) → i < n → i < length l → r ≡ code_at s w (at + 11 * i) i → put (i + 1) (codes_from s w at (i + 1) (n - (i + 1))) (set l i r) ≡ put i (codes_from s w at i (n - i)) l
+  pub codes_turn : (r : code.Reading) (l : List code.Reading) → i < n → i < length l → r ≡ code_at s w (at + 11 * i) i → put (i + 1) (codes_from s w at (i + 1) (n - (i + 1))) (set l i r) ≡ put i (codes_from s w at i (n - i)) l
   unfolding codes_from
   codes_turn r l h k e =
       put-cons i r (codes_from s w at (i + 1) (n - (i + 1))) l k
-      ∙ ap (λ (z : List ℕ). put i z l) (ap (◌∷ codes_from s w at (i + 1) (n - (i + 1))) e ∙ sym (ap (map (λ p. code_at s w (at + 11 * p) p)) (from_step i n h)))
+      ∙ ap (λ (z : List code.Reading). put i z l) (ap (◌∷ codes_from s w at (i + 1) (n - (i + 1))) e ∙ sym (ap (map (λ p. code_at s w (at + 11 * p) p)) (from_step i n h)))
 
-  pub codes_end : (l : List ℕ) → n ≤ i → put i (codes_from s w at i (n - i)) l ≡ l
+  pub codes_end : (l : List code.Reading) → n ≤ i → put i (codes_from s w at i (n - i)) l ≡ l
   unfolding codes_from
   codes_end l h = ap (λ (z : List ℕ). put i (map (λ p. code_at s w (at + 11 * p) p) z) l) (from_end i n h) ∙ put-nil i l
 

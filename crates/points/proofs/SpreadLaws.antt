@@ -32,12 +32,6 @@ one_cover k x e = sym (ap (λ (b : Bool). cond b x (as_bit (eqb k 3))) (eq-eqb k
 pub one_other : (k x y : ℕ) → (k ≡ 0 → ⊥) → y ≡ as_bit (eqb k 3) → y ≡ spread_one k x
 one_other k x y h e = e ∙ sym (ap (λ (b : Bool). cond b x (as_bit (eqb k 3))) (ne_eqb k 0 h))
 
-pub next_cover : (k at : ℕ) → k ≡ 0 → at + 1 ≡ next_at k at
-next_cover k at e = sym (ap (λ (b : Bool). cond b (at + 1) at) (eq-eqb k 0 e))
-
-pub next_other : (k at : ℕ) → (k ≡ 0 → ⊥) → at ≡ next_at k at
-next_other k at h = sym (ap (λ (b : Bool). cond b (at + 1) at) (ne_eqb k 0 h))
-
 module _ (kinds xs : List ℕ) (from n i : ℕ) where
   pub spread_turn : (at next y : ℕ) (l : List ℕ) → i < n → from + i < length l → y ≡ spread_one (get_or kinds (from + i) 0) (get_or xs at 0) → next ≡ next_at (get_or kinds (from + i) 0) at
       → put (from + (i + 1)) (spread kinds xs (from + (i + 1)) next (n - (i + 1))) (set l (from + i) y) ≡ put (from + i) (spread kinds xs (from + i) at (n - i)) l

@@ -13,19 +13,8 @@ use Rattle.model.specs.Lists.{as_bit}
 use Rattle.model.specs.Sampling.{guard_true}
 use Rattle.model.specs.Format.{byte, kind_from, guard_from}
 use Rattle.model.proofs.Booleans.{false-true}
-use Rattle.model.proofs.Fields.{excludes-kind}
 use Rattle.model.proofs.Lists.{one_left, none_left}
 use Rattle.points.specs.Transitions.{lost_with, lost_lengths, flags_by, flags_of, flags_from}
-
-module _ (s : List ℕ) (p at before x q k : ℕ) (eq : q ≡ byte s at) (ek : k ≡ byte s (at + 1)) where
-  lost_test : (b : Bool) → (eqb q p && (eqb k 1 || eqb k 2)) ≡ b → cond b (bit_or before x) before ≡ lost_with s p at before x
-  lost_test b e = ap (λ (y : Bool). cond y (bit_or before x) before) (sym e ∙ ap₂ (λ (y z : ℕ). eqb y p && (eqb z 1 || eqb z 2)) eq ek ∙ ap (eqb (byte s at) p &&◌) (excludes-kind (byte s (at + 1))))
-
-  pub lost_more : (eqb q p && (eqb k 1 || eqb k 2)) ≡ true → bit_or before x ≡ lost_with s p at before x
-  lost_more e = lost_test true e
-
-  pub lost_same : (eqb q p && (eqb k 1 || eqb k 2)) ≡ false → before ≡ lost_with s p at before x
-  lost_same e = lost_test false e
 
 module _ (s lens : List ℕ) (p b n i : ℕ) where
   pub lost_turn : (before r : ℕ) → i < n → r ≡ lost_with s p (b + 4 * i) before (get_or lens i 0) → lost_lengths s lens p b (i + 1) (n - (i + 1)) r ≡ lost_lengths s lens p b i (n - i) before
@@ -35,6 +24,24 @@ module _ (s lens : List ℕ) (p b n i : ℕ) where
   pub lost_end : (before : ℕ) → n ≤ i → lost_lengths s lens p b i (n - i) before ≡ before
   unfolding lost_lengths
   lost_end before h = ap (λ (m : ℕ). lost_lengths s lens p b i m before) (none_left n i h)
+
+-- ---- which bins have a counter
+
+pub neither : (k : ℕ) (y : Bool) → y ≡ (eqb k 0 || eqb k 2) → y ≡ false → (not (eqb k 0) && not (eqb k 2)) ≡ true
+neither k y e h = go (eqb k 0) (eqb k 2) (sym e ∙ h)
+  where
+    go : (a b : Bool) → (a || b) ≡ false → (not a && not b) ≡ true
+    go true b h = absurd (false-true (sym h))
+    go false true h = absurd (false-true (sym h))
+    go false false h = refl
+
+pub one-of : (k : ℕ) (y : Bool) → y ≡ (eqb k 0 || eqb k 2) → y ≡ true → (not (eqb k 0) && not (eqb k 2)) ≡ false
+one-of k y e h = go (eqb k 0) (eqb k 2) (sym e ∙ h)
+  where
+    go : (a b : Bool) → (a || b) ≡ true → (not a && not b) ≡ false
+    go true b h = refl
+    go false true h = refl
+    go false false h = absurd (false-true h)
 
 -- ---- one bin
 
@@ -81,10 +88,3 @@ module _ (s w lens : List ℕ) (p : ℕ) (skip : Bool) (lost b n i : ℕ) where
   pub bins_end : n ≤ i → flags_from s w lens p skip lost b i (n - i) ≡ []
   unfolding flags_from
   bins_end h = ap (flags_from s w lens p skip lost b i) (none_left n i h)
-
--- by a kind
-pub when_cover : (k : ℕ) (x y : Bool) → k ≡ 0 → x ≡ cond (eqb k 0) x y
-when_cover k x y e = sym (ap (λ (b : Bool). cond b x y) (eq-eqb k 0 e))
-
-pub when_other : (k : ℕ) (x y : Bool) → (k ≡ 0 → ⊥) → y ≡ cond (eqb k 0) x y
-when_other k x y e = sym (ap (λ (b : Bool). cond b x y) (ne_eqb k 0 e))

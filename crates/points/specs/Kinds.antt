@@ -14,10 +14,6 @@ kinds_by low ignore u = []
 kinds_by low illegal u = 2 ∷ []
 kinds_by low default u = 1 ∷ []
 
--- an illegal bin, or a default bin
-abbrev pub plain_kind : ℕ → ℕ
-plain_kind kind = cond (eqb kind 2) 2 1
-
 -- if it is one of point p
 unfoldable pub bin_kinds : ℕ → ℕ → ValueBin → List ℕ
 bin_kinds low p u = cond (eqb u.point p) (kinds_by low u.kind u) []

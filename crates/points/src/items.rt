@@ -15,11 +15,9 @@ fn put_each(items: &mut [u8], t: &[u8], starts: &[u16], n: usize) -> usize
     ensures after { items.new ≡ put 0 (items_of (table_of t.now) (all_point_counters (table_of t.now))) items.old }
 {
     let mut c: usize = 0;
-    let mut p: usize = 0;
-    while p < n {
+    for p in 0..n {
         let e = starts[p + 1] as usize;
         c = put_same(items, c, e - c, p as u8);
-        p += 1;
     }
     c
 }

@@ -8,7 +8,7 @@ ghost use Rattle.arrays.specs.Put.{put};
 ghost use Rattle.arrays.specs.Flat.{kinds_of, all_point_counters, point_starts};
 ghost use Rattle.spans.specs.Part.{OwnBins};
 ghost use Rattle.values.specs.Counts.{cover_count};
-ghost use Rattle.points.specs.Kinds.{plain_kind, bin_kinds, kinds_in, transition_kinds, transition_kinds_from, Placed};
+ghost use Rattle.points.specs.Kinds.{bin_kinds, kinds_in, transition_kinds, transition_kinds_from, Placed};
 
 use arrays::{put_one, put_same};
 use layout::{Layout, layout_of};
@@ -17,12 +17,7 @@ use spans::part::{own_parts, part_of};
 use values::counts::several_count;
 use values::points::{auto_total, has_auto, lowest_at};
 use words::bytes::{byte, read2};
-
-fn plain_kind(kind: u8) -> u8
-    ensures { result ≡ plain_kind kind }
-{
-    if kind == 2 { 2 } else { 1 }
-}
+use words::kinds::Kind;
 
 // The cover bin at a, its ranges from r on. low: the lowest value of its point's type. One bin, as most are, is stored without a loop.
 fn put_cover_kinds(kinds: &mut [u8], cur: usize, t: &[u8], a: usize, r: usize, low: u64) -> usize
@@ -54,14 +49,12 @@ fn put_bin_kinds(
     if q != p {
         return cur;
     }
-    let kind = byte(t, a + 1);
-    if kind == 1 {
-        return cur;
+    match Kind::from(byte(t, a + 1)) {
+        Kind::Cover => put_cover_kinds(kinds, cur, t, a, r, low),
+        Kind::Ignore => cur,
+        Kind::Illegal => put_same(kinds, cur, 1, 2),
+        Kind::Default => put_same(kinds, cur, 1, 1),
     }
-    if kind == 0 {
-        return put_cover_kinds(kinds, cur, t, a, r, low);
-    }
-    put_same(kinds, cur, 1, plain_kind(kind))
 }
 
 // The value bins of point p, which are among those of `own`.
@@ -70,17 +63,13 @@ fn put_value_kinds(kinds: &mut [u8], cur: usize, t: &[u8], own: Bins, p: u8, low
     requires count_in_bounds { cur + length (kinds_in low p (bins_at t.now own.bins own.ranges own.count)) ≤ length kinds.old }
     ensures { (result ≡ cur + length (kinds_in low p (bins_at t.now own.bins own.ranges own.count))) × (kinds.new ≡ put cur (kinds_in low p (bins_at t.now own.bins own.ranges own.count)) kinds.old) }
 {
-    let a = own.bins;
-    let n = own.count;
     let mut c = cur;
     let mut at = own.ranges;
-    let mut i = 0;
-    while i < n {
-        let here = a + 8 * i;
+    for i in 0..own.count {
+        let here = own.bins + 8 * i;
         c = put_bin_kinds(kinds, c, t, here, at, p, low);
         let k = read2(t, here + 6);
         at += 17 * (k as usize);
-        i += 1;
     }
     c
 }
@@ -94,14 +83,11 @@ fn put_transition_kind(kinds: &mut [u8], cur: usize, t: &[u8], p: u8, at: usize)
     if q != p {
         return cur;
     }
-    let kind = byte(t, at + 1);
-    if kind == 0 {
-        return put_same(kinds, cur, 1, 3);
+    match Kind::from(byte(t, at + 1)) {
+        Kind::Cover => put_same(kinds, cur, 1, 3),
+        Kind::Illegal => put_same(kinds, cur, 1, 4),
+        _ => cur,
     }
-    if kind == 2 {
-        return put_same(kinds, cur, 1, 4);
-    }
-    cur
 }
 
 // The transition bins of point p among n bins from b on.
@@ -110,10 +96,8 @@ fn put_transition_kinds(kinds: &mut [u8], cur: usize, t: &[u8], p: u8, b: usize,
     ensures { (result ≡ cur + length (transition_kinds_from t.now p b 0 n)) × (kinds.new ≡ put cur (transition_kinds_from t.now p b 0 n) kinds.old) }
 {
     let mut c = cur;
-    let mut i = 0;
-    while i < n {
+    for i in 0..n {
         c = put_transition_kind(kinds, c, t, p, b + 4 * i);
-        i += 1;
     }
     c
 }
@@ -143,12 +127,10 @@ fn put_each(kinds: &mut [u8], starts: &mut [u16], t: &[u8], l: Layout) -> usize
     let n = l.point_count;
     let parts = own_parts(t);
     let mut c = 0;
-    let mut p: usize = 0;
-    while p < n {
+    for p in 0..n {
         starts[p] = c as u16;
         let own = part_of(parts, p);
         c = put_kinds(kinds, c, t, l, own, p as u8);
-        p += 1;
     }
     starts[n] = c as u16;
     c

@@ -21,7 +21,7 @@ fn next_at(kind: u8, at: usize) -> usize
     requires { at < 100000 }
     ensures { (result ≡ next_at kind at) × (result ≤ at + 1) }
 {
-    if kind == 0 { at + 1 } else { at }
+    at + usize::from(kind == 0)
 }
 
 // n counters from number from on; the elements of their cover bins stand from at on.
@@ -30,14 +30,12 @@ fn scatter_some(flags: &mut [u8], kinds: &[u8], has: &[u8], from: usize, at: usi
     ensures { flags.new ≡ put from (spread kinds.now has.now from at n) flags.old }
 {
     let mut a = at;
-    let mut i = 0;
-    while i < n {
+    for i in 0..n {
         let k = kinds[from + i];
         let x = has[a];
         let y = spread_one(k, x);
         flags[from + i] = y;
         a = next_at(k, a);
-        i += 1;
     }
 }
 
@@ -56,12 +54,10 @@ fn scatter_each(
     ensures flags_after { flags.new ≡ put 0 (total_flags (table_of t.now) (all_point_counters (table_of t.now))) flags.old }
 {
     let mut c: usize = 0;
-    let mut p: usize = 0;
-    while p < n {
+    for p in 0..n {
         let e = starts[p + 1] as usize;
         scatter_some(flags, kinds, has, c, 256 * p, e - c);
         c = e;
-        p += 1;
     }
     c
 }

@@ -1,7 +1,9 @@
 // The flags of a point's transition bins. Each bin's matched lengths are the bits of a word.
-ghost use Rattle.std.specs.Prelude.{◌≡◌, cond, not, ◌<◌, ◌≤◌, ◌+◌, eqb, length};
+ghost use Rattle.std.specs.Prelude.{◌≡◌, cond, not, ◌||◌, ◌<◌, ◌≤◌, ◌+◌, eqb, length};
 ghost use Rattle.std.specs.Int.Bits.{bit_or};
+ghost use Rattle.model.specs.Sampling.{is_skipped};
 ghost use Rattle.arrays.specs.Put.{put};
+ghost use Rattle.arrays.specs.Flat.{reading_from};
 ghost use Rattle.points.specs.Transitions.{lost_with, lost_lengths, flags_of, flags_from, transition_flags};
 
 use crate::readings::PointReading;
@@ -9,6 +11,7 @@ use arrays::put_one;
 use layout::Layout;
 use values::fields::guard_true;
 use words::bytes::byte;
+use words::kinds::Kind;
 
 // The lengths x of the bin at at, taken away from the point's cover bins, with those taken before.
 fn lost_with(t: &[u8], p: u8, at: usize, before: u32, x: u32) -> u32
@@ -16,8 +19,8 @@ fn lost_with(t: &[u8], p: u8, at: usize, before: u32, x: u32) -> u32
     ensures { result ≡ lost_with t.now p at before x }
 {
     let q = byte(t, at);
-    let k = byte(t, at + 1);
-    if (q == p) & ((k == 1) | (k == 2)) {
+    let kind = Kind::from(byte(t, at + 1));
+    if (q == p) & kind.excludes() {
         before | x
     } else {
         before
@@ -30,23 +33,27 @@ fn lost_lengths(t: &[u8], p: u8, b: usize, n: usize, lens: &[u32]) -> u32
     ensures { result ≡ lost_lengths t.now lens.now p b 0 n 0 }
 {
     let mut lost: u32 = 0;
-    let mut i = 0;
-    while i < n {
+    for i in 0..n {
         let x = lens[i];
         lost = lost_with(t, p, b + 4 * i, lost, x);
-        i += 1;
     }
     lost
+}
+
+// A bin of the kind has a counter.
+fn counted(kind: u8) -> bool
+    ensures { result ≡ (eqb kind 0 || eqb kind 2) }
+{
+    matches!(Kind::from(kind), Kind::Cover | Kind::Illegal)
 }
 
 // A cover bin has a length that is not lost; an illegal bin has a length.
 fn matched(kind: u8, lost: u32, x: u32) -> bool
     ensures { result ≡ cond (eqb kind 0) (not (eqb (bit_or x lost) lost)) (not (eqb x 0)) }
 {
-    if kind == 0 {
-        (x | lost) != lost
-    } else {
-        x != 0
+    match Kind::from(kind) {
+        Kind::Cover => (x | lost) != lost,
+        _ => x != 0,
     }
 }
 
@@ -76,7 +83,7 @@ fn put_transition(
         return cur;
     }
     let kind = byte(t, at + 1);
-    if (kind != 0) & (kind != 2) {
+    if !counted(kind) {
         return cur;
     }
     let g = byte(t, at + 2);
@@ -101,11 +108,9 @@ fn put_bins(
     let b = l.transitions;
     let n = l.transition_count;
     let mut c = cur;
-    let mut i = 0;
-    while i < n {
+    for i in 0..n {
         let x = lens[i];
         c = put_transition(flags, c, t, sample, e, b + 4 * i, x);
-        i += 1;
     }
     c
 }
@@ -120,11 +125,11 @@ pub fn put_transitions(
     lens: &[u32],
     own: PointReading,
 ) -> usize
-    requires { (l.transitions < 1000000000) × (l.transition_count ≤ 64) × (l.transition_count ≤ length lens.now) × (cur + length (transition_flags t.now sample.now lens.now own.point (eqb own.code 8589934592) l.transitions l.transition_count) ≤ length flags.old) }
-    ensures { (result ≡ cur + length (transition_flags t.now sample.now lens.now own.point (eqb own.code 8589934592) l.transitions l.transition_count)) × (flags.new ≡ put cur (transition_flags t.now sample.now lens.now own.point (eqb own.code 8589934592) l.transitions l.transition_count) flags.old) }
+    requires { (l.transitions < 1000000000) × (l.transition_count ≤ 64) × (l.transition_count ≤ length lens.now) × (cur + length (transition_flags t.now sample.now lens.now own.point (is_skipped (reading_from own.reading)) l.transitions l.transition_count) ≤ length flags.old) }
+    ensures { (result ≡ cur + length (transition_flags t.now sample.now lens.now own.point (is_skipped (reading_from own.reading)) l.transitions l.transition_count)) × (flags.new ≡ put cur (transition_flags t.now sample.now lens.now own.point (is_skipped (reading_from own.reading)) l.transitions l.transition_count) flags.old) }
 {
     let point = own.point;
-    let skip = own.code == 8589934592;
+    let skip = own.reading.is_skipped();
     let lost = lost_lengths(t, point, l.transitions, l.transition_count, lens);
     put_bins(
         flags,

@@ -1,15 +1,11 @@
 -- The longest bin of a cross, and the room that its tokens need.
 -- Assumes nothing.
-use mathlib.Core.Path.{◌≡◌, ap, sym, ◌∙◌, subst}
-use mathlib.Core.Bool.{true, ◌&&◌}
+use mathlib.Core.Path.{◌≡◌, ap, sym, ◌∙◌}
 use mathlib.Core.List.{List}
 use Prim.Native.Nat.{ℕ, zero, suc, ◌+◌, ◌*◌, ◌-◌, ◌/◌, ◌≤◌, ◌<◌, max}
 use native.Mathlib.Nat.{mul-le-mul}
 use native.Mathlib.Omega.{arith}
-use lib.Dec.{leb}
-use borrow.Author.Tests.{leb-true}
 use Rattle.model.specs.Format.{byte}
-use Rattle.model.proofs.Booleans.{and_left, and_right}
 use Rattle.model.proofs.Lists.{one_left}
 use Rattle.products.specs.Expressions.{room_for}
 use Rattle.products.specs.Marks.{longest, BinsLegal}
@@ -44,10 +40,3 @@ longest-few s c b k (suc n) legal = omega (arith, legal.0, longest-few s c (b + 
 -- no bin of a cross with at most 1,024 products needs more
 pub room_most : (m n : ℕ) → m ≤ 32 → n ≤ 1024 → room_for m n ≤ 17408
 room_most m n h k = omega (arith, mul-le-mul (let z : m / 2 + 1 ≤ 17 = omega arith in z) k)
-
--- the test of a size class
-pub class-fits : (m most n a b : ℕ) → m ≡ most → (leb m a && leb (room_for m n) b) ≡ true → (room_for most n ≤ b) × (most ≤ a)
-class-fits m most n a b e h = (
-  subst (λ (y : ℕ). room_for y n ≤ b) e (leb-true (room_for m n) b (and_right (leb m a) (leb (room_for m n) b) h)),
-  subst (λ (y : ℕ). y ≤ a) e (leb-true m a (and_left (leb m a) (leb (room_for m n) b) h)),
-)

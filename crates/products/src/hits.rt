@@ -34,9 +34,7 @@ pub fn put_hits(stack: &mut [u8], t: &[u8], gate: &[u8], p: Place, s: Shape)
     let count = s.count;
     let at = p.cross + 1;
     put_same(stack, 0, n, 1);
-    let mut q = 0;
-    while q < count {
+    for q in 0..count {
         and_gate(stack, t, gate, at, q, s);
-        q += 1;
     }
 }

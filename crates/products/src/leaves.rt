@@ -6,7 +6,7 @@ ghost use Rattle.products.specs.Tokens.{named_from, Ready, Legal, TokensLegal, R
 
 use crate::shapes::{Shape, parts_at};
 use arrays::{as_bit, element, put_same};
-use meets::plan::{Question, put_meets};
+use meets::plan::{Plan, Question, put_meets};
 use values::fields::field;
 use words::bytes::{byte, read2};
 
@@ -15,14 +15,8 @@ fn put_named(leaves: &mut [u8], row: usize, lists: &[u16], from: usize, b: u16, 
     requires { (row + n ≤ length leaves.old) × (from < 1000000000) × (n ≤ 256) }
     ensures { leaves.new ≡ put row (named_from lists.now b from n) leaves.old }
 {
-    let end = row + n;
-    let mut at = row;
-    let mut i = from;
-    while at < end {
-        let x = element(lists, i);
-        leaves[at] = as_bit(x == b);
-        at += 1;
-        i += 1;
+    for i in 0..n {
+        leaves[row + i] = as_bit(element(lists, from + i) == b);
     }
 }
 
@@ -34,20 +28,20 @@ pub struct Token {
     pub at: usize,
 }
 
-// The row of a token: a byte for each part of its point. plan and the start of `lists` are the plan of the table's values,
-// the origins stand from element 64 on; s is the cross's shape.
-fn put_row(leaves: &mut [u8], t: &[u8], plan: &[u64], lists: &[u16], k: Token, s: Shape)
+// The row of a token: a byte for each part of its point. s is the cross's shape.
+fn put_row(leaves: &mut [u8], plan: Plan, k: Token, s: Shape)
     requires row_in_bounds { (k.row + 256 ≤ length leaves.old) × (k.cross < 1000000000) × (k.at < 1000000000) }
-    requires ready { Ready t.now k.cross s plan.now lists.now × Legal t.now k.cross k.at }
-    ensures { RowTold (table_of t.now) t.now k.cross k.at k.row leaves.new × Kept k.row leaves.old leaves.new }
+    requires ready { Ready plan.table.now k.cross s plan.words.now plan.lists.now × Legal plan.table.now k.cross k.at }
+    ensures { RowTold (table_of plan.entry.table.now) plan.entry.table.now k.cross k.at k.row leaves.new × Kept k.row leaves.old leaves.new }
 {
+    let t = plan.table;
     let op = byte(t, k.at);
     let i = byte(t, k.at + 1);
     let p = byte(t, k.cross + 1 + (i as usize)) as usize;
     let parts = parts_at(s, i as usize);
     if op == 1 {
         let b = read2(t, k.at + 2);
-        put_named(leaves, k.row, lists, 64 + 256 * p, b, parts);
+        put_named(leaves, k.row, plan.lists, 64 + 256 * p, b, parts);
         return;
     }
     if op == 2 {
@@ -55,11 +49,11 @@ fn put_row(leaves: &mut [u8], t: &[u8], plan: &[u64], lists: &[u16], k: Token, s
         let hi = field(t, k.at + 12);
         let q = Question {
             point: p,
-            parts: parts,
-            lo: lo,
-            hi: hi,
+            parts,
+            lo,
+            hi,
         };
-        put_meets(leaves, k.row, t, plan, lists, q);
+        put_meets(leaves, k.row, plan, q);
         return;
     }
     let v = as_bit(op == 0);
@@ -75,19 +69,17 @@ pub struct Tokens {
 }
 
 // The rows of a bin's tokens.
-pub fn put_rows(leaves: &mut [u8], t: &[u8], plan: &[u64], lists: &[u16], k: Tokens, s: Shape)
+pub fn put_rows(leaves: &mut [u8], plan: Plan, k: Tokens, s: Shape)
     requires count_in_bounds { (256 * k.count ≤ length leaves.old) × (k.count ≤ 32) × (k.cross < 1000000000) × (k.at < 900000000) }
-    requires ready { Ready t.now k.cross s plan.now lists.now × TokensLegal t.now k.cross k.at k.count }
-    ensures { RowsTold (table_of t.now) t.now k.cross k.at k.count leaves.new }
+    requires ready { Ready plan.table.now k.cross s plan.words.now plan.lists.now × TokensLegal plan.table.now k.cross k.at k.count }
+    ensures { RowsTold (table_of plan.entry.table.now) plan.entry.table.now k.cross k.at k.count leaves.new }
 {
-    let mut j = 0;
-    while j < k.count {
+    for j in 0..k.count {
         let token = Token {
             row: 256 * j,
             cross: k.cross,
             at: k.at + 20 * j,
         };
-        put_row(leaves, t, plan, lists, token, s);
-        j += 1;
+        put_row(leaves, plan, token, s);
     }
 }

@@ -33,15 +33,15 @@ pub fn shape_of(t: &[u8], counts: &[u16], p: Place) -> Shape
     let count = byte(t, at) as usize;
     let size = sizes_of(t, at, counts);
     let parts = Shape {
-        count: count,
-        size: size,
+        count,
+        size,
         total: 0,
     };
     let first = parts_at(parts, 0);
     let inner = inner_of(parts, 0);
     Shape {
-        count: count,
-        size: size,
+        count,
+        size,
         total: first * inner,
     }
 }

@@ -15,6 +15,6 @@ pub power_half : (width : ℕ) → width ≤ 32 → power_of (width - 1) ≤ 214
 unfolding power_of
 power_half width h = pow_mono {j = 31} (omega arith)
 
-pub low_record : (s : List ℕ) (point width sign low : ℕ) → width ≡ byte s point → sign ≡ byte s (point + 1) → low ≡ lowest_of width (eqb sign 1) → low ≡ lowest (point_record s point)
+pub low_typed : (s : List ℕ) (point width : ℕ) (signed : Bool) (low : ℕ) → width ≡ byte s point → signed ≡ eqb (byte s (point + 1)) 1 → low ≡ lowest_of width signed → low ≡ lowest (point_record s point)
 unfolding lowest_of power_of
-low_record s point width sign low ew es el = el ∙ ap₂ (λ (w g : ℕ). lowest_of w (eqb g 1)) ew es
+low_typed s point width signed low ew es el = el ∙ ap₂ lowest_of ew es

@@ -1,12 +1,11 @@
 -- Spans that are tested lightly: where the tests pass, reading them finds no fault.
 -- Assumes nothing.
-use Rattle.std.proofs.Common.{◌≡◌, ℕ, zero, suc, ◌+◌, ◌-◌, ◌*◌, ◌<◌, ◌≤◌, Bool, true, false, not, ◌&&◌, eqb, leb, List, length, sym, refl, ap, ◌∙◌, arith, rules, leb-true}
+use Rattle.std.proofs.Common.{Ok, ◌≡◌, ℕ, zero, suc, ◌+◌, ◌-◌, ◌*◌, ◌<◌, ◌≤◌, Bool, true, false, not, ◌&&◌, eqb, leb, List, length, sym, refl, ap, ◌∙◌, arith, rules, leb-true}
 use native.Mathlib.Nat.{sub-zero}
 use Rattle.model.specs.Format.{byte, u64, times, read_range, range_tests, range_record, range_rules, value_tests, point_record}
 use Rattle.model.proofs.Booleans.{and_left, and_right, false-true}
 use Rattle.model.proofs.Lists.{none_left, one_left}
-use Rattle.words.specs.Verdicts.{verdict, verdict_of, verdict_in}
-use Rattle.words.specs.declared.verdicts.Verdict.{Verdict}
+use Rattle.words.specs.Verdicts.{Verdict, verdict_of, verdict_in}
 use Rattle.words.proofs.Laws.{record_whole, verdict-cons_on}
 use Rattle.ranges.specs.Types.{typed, value_at, power_of, lowest_of, limits_of, end_tests, all_pass, span_in, spans_in, sound_spans}
 use Rattle.ranges.specs.declared.Limits.{Limits}
@@ -53,23 +52,23 @@ module _ (s : List ℕ) (width : ℕ) (signed patterns : Bool) where
       let ordered : e.ordered ≡ true = and_right (e.first && e.last) e.ordered both in
       rw (k, first, last, ordered)
 
-  span_read : (at : ℕ) → at + 17 ≤ length s → span_in s (limits_of width signed) at ≡ true → verdict 0 (at + 17) ≡ verdict_of (read_range s (typed width signed) patterns at)
+  span_read : (at : ℕ) → at + 17 ≤ length s → span_in s (limits_of width signed) at ≡ true → Ok (at + 17) ≡ verdict_of (read_range s (typed width signed) patterns at)
   unfolding read_range span_in
-  span_read at w h = record_whole s 17 (range_tests s (typed width signed) patterns) (range_record s) at (verdict 0 (at + 17)) w (span_passes (u64 s (at + 1)) (u64 s (at + 9)) (byte s at) at (verdict 0 (at + 17)) h)
+  span_read at w h = record_whole s 17 (range_tests s (typed width signed) patterns) (range_record s) at (Ok (at + 17)) w (span_passes (u64 s (at + 1)) (u64 s (at + 9)) (byte s at) at (Ok (at + 17)) h)
 
-  spans_read : (n at : ℕ) → at + 17 * n ≤ length s → spans_in s (limits_of width signed) n at ≡ true → verdict 0 (at + 17 * n) ≡ verdict_of (times n (read_range s (typed width signed) patterns) at)
+  spans_read : (n at : ℕ) → at + 17 * n ≤ length s → spans_in s (limits_of width signed) n at ≡ true → Ok (at + 17 * n) ≡ verdict_of (times n (read_range s (typed width signed) patterns) at)
   unfolding spans_in times verdict_of
-  spans_read zero at w h = ap (verdict 0) (let y : at + 17 * 0 ≡ at = omega arith in y)
+  spans_read zero at w h = ap (λ (x : ℕ). Ok x) (let y : at + 17 * 0 ≡ at = omega arith in y)
   spans_read (suc n) at w h =
       let one = read_range s (typed width signed) patterns in
       let l = limits_of width signed in
-      let e : verdict 0 (at + 17) ≡ verdict_of (one at) = span_read at (omega arith) (and_left (span_in s l at) (spans_in s l n (at + 17)) h) in
-      ap (verdict 0) (let y : at + 17 * suc n ≡ at + 17 + 17 * n = omega arith in y)
+      let e : Ok (at + 17) ≡ verdict_of (one at) = span_read at (omega arith) (and_left (span_in s l at) (spans_in s l n (at + 17)) h) in
+      ap (λ (x : ℕ). Ok x) (let y : at + 17 * suc n ≡ at + 17 + 17 * n = omega arith in y)
       ∙ spans_read n (at + 17) (omega arith) (and_right (span_in s l at) (spans_in s l n (at + 17)) h)
-      ∙ sym (verdict-cons_on (one at) (times n one) (verdict 0 (at + 17)) e refl)
+      ∙ sym (verdict-cons_on (one at) (times n one) (at + 17) e)
 
 -- where they are spans of a point's, no range of them has a fault
-pub sound-read : (s : List ℕ) (point n at : ℕ) (patterns : Bool) (r : Verdict) → sound_spans s point n at ≡ true → r ≡ verdict 0 (at + 17 * n)
+pub sound-read : (s : List ℕ) (point n at : ℕ) (patterns : Bool) (r : Verdict) → sound_spans s point n at ≡ true → r ≡ Ok (at + 17 * n)
     → r ≡ verdict_of (times n (read_range s (point_record s point) patterns) at)
 unfolding sound_spans
 sound-read s point n at patterns r h e =

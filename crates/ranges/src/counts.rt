@@ -6,7 +6,7 @@ ghost use Rattle.model.specs.Ranges.{ascending, next_in_range, next_in, sizes};
 ghost use Rattle.model.specs.Raw.{ranges_at};
 ghost use Rattle.ranges.specs.Counts.{in_order, rising, nearer_of, FirstOf};
 
-use crate::next::{larger, least, next_in_pattern, next_in_span};
+use crate::next::{next_in_pattern, next_in_span};
 use crate::value_at;
 use words::bytes::{byte, read8};
 
@@ -42,8 +42,7 @@ fn rising_count(t: &[u8], start: usize, n: usize, low: u64) -> usize
     let mut x = low;
     let mut count: u64 = 0;
     let mut at = start;
-    let mut i = 0;
-    while i < n {
+    for i in 0..n {
         let kind = byte(t, at);
         if kind != 0 {
             return 258;
@@ -54,10 +53,9 @@ fn rising_count(t: &[u8], start: usize, n: usize, low: u64) -> usize
         if !in_order(x, lo, hi) {
             return 258;
         }
-        count = least(257, count + (hi + 1 - lo));
+        count = 257u64.min(count + (hi + 1 - lo));
         x = hi + 1;
         at += 17;
-        i += 1;
     }
     count as usize
 }
@@ -74,16 +72,10 @@ fn stretch_at(t: &[u8], at: usize, x: u64) -> Stretch
         let lo = value_at(a);
         let hi = value_at(b);
         let first = next_in_span(lo, hi, x);
-        return Stretch {
-            first: first,
-            last: hi,
-        };
+        return Stretch { first, last: hi };
     }
     let first = next_in_pattern(a, b, x);
-    Stretch {
-        first: first,
-        last: 0,
-    }
+    Stretch { first, last: 0 }
 }
 
 fn nearer(best: Stretch, other: Stretch) -> Stretch
@@ -106,12 +98,10 @@ fn stretch_from(t: &[u8], start: usize, n: usize, x: u64) -> Stretch
         last: 0,
     };
     let mut at = start;
-    let mut i = 0;
-    while i < n {
+    for i in 0..n {
         let s = stretch_at(t, at, x);
         best = nearer(best, s);
         at += 17;
-        i += 1;
     }
     best
 }
@@ -129,8 +119,8 @@ fn stretch_count(t: &[u8], start: usize, n: usize, low: u64) -> usize
         if first >= 8589934592 {
             return count as usize;
         }
-        let last = larger(first, least(s.last, 8589934591));
-        count = least(257, count + (last + 1 - first));
+        let last = first.max(s.last.min(8589934591));
+        count = 257u64.min(count + (last + 1 - first));
         x = last + 1;
     }
     count as usize

@@ -6,15 +6,18 @@ pub mod member;
 pub mod next;
 pub mod sizes;
 pub mod taken;
+pub mod types;
 
-ghost use Rattle.std.specs.Prelude.{◌≡◌, ◌+◌, ◌*◌, ◌≤◌, true, length};
+ghost use Rattle.std.specs.Prelude.{◌≡◌, ◌==◌, ◌+◌, ◌*◌, ◌≤◌, length};
 ghost use Rattle.model.specs.Lists.{within};
-ghost use Rattle.model.specs.Format.{value_tests, pattern_tests, range_rules, read_range, point_record, times};
-ghost use Rattle.words.specs.Verdicts.{verdict, verdict_of, verdict_in};
+ghost use Rattle.model.specs.Format.{byte, value_tests, pattern_tests, range_rules, range_tests, read_range, point_record, times};
+ghost use Rattle.words.specs.Verdicts.{verdict_of, verdict_in};
 ghost use Rattle.ranges.specs.Types.{typed, power_of, limits_of, value_at, lowest_of, Wide, end_tests, all_pass, span_in, spans_in, sound_spans};
 
+use crate::types::PointType;
 use words::bytes::{byte, inside, whole8};
-use words::verdicts::{Verdict, fault, sound, test};
+use words::records::records;
+use words::verdicts::{Fault, FaultClass, Verdict, test};
 
 pub fn power(width: u8) -> u64
     requires { width ≤ 32 }
@@ -30,19 +33,27 @@ pub fn value_at(bits: u64) -> u64
     std::num::wrapping_add_u64(bits, 2147483648)
 }
 
-fn half(width: u8) -> u64
-    requires { (1 ≤ width) × (width ≤ 32) }
-    ensures { (result ≡ lowest_of width true) × (result ≤ 2147483648) }
+// The type of the point whose record is at point.
+pub fn type_at(t: &[u8], point: usize) -> PointType
+    requires { (point ≤ 1000000000000) × Wide t.now point }
+    ensures width { result.width ≡ byte t.now point }
+    ensures signed { result.signed ≡ (byte t.now (point + 1) == 1) }
 {
-    2147483648 - power(width - 1)
+    PointType {
+        width: byte(t, point),
+        signed: byte(t, point + 1) == 1,
+    }
 }
 
 // The lowest value of a type.
-pub fn lowest(width: u8, signed: bool) -> u64
-    requires { (1 ≤ width) × (width ≤ 32) }
-    ensures { (result ≡ lowest_of width signed) × (result ≤ 2147483648) }
+pub fn lowest(p: PointType) -> u64
+    ensures { (result ≡ lowest_of p.width p.signed) × (result ≤ 2147483648) }
 {
-    if signed { half(width) } else { 2147483648 }
+    if p.signed {
+        2147483648 - power(p.width - 1)
+    } else {
+        2147483648
+    }
 }
 
 // The lowest and the highest value of a type.
@@ -52,14 +63,13 @@ struct Limits {
     high: u64,
 }
 
-fn limits_of(width: u8, signed: bool) -> Limits
-    requires { (1 ≤ width) × (width ≤ 32) }
-    ensures { result ≡ limits_of width signed }
+fn limits_of(p: PointType) -> Limits
+    ensures { result ≡ limits_of p.width p.signed }
 {
-    let low = lowest(width, signed);
+    let low = lowest(p);
     Limits {
-        low: low,
-        high: low + power(width) - 1,
+        low,
+        high: low + power(p.width) - 1,
     }
 }
 
@@ -95,69 +105,54 @@ fn all_pass(e: EndTests) -> bool
     e.first & e.last & e.ordered
 }
 
-// Two i64 fields from at on; then what rest says.
-pub fn value_tests(width: u8, signed: bool, a: u64, b: u64, at: usize, rest: Verdict) -> Verdict
-    requires { (1 ≤ width) × (width ≤ 32) × (at ≤ 100000) }
-    ensures { result ≡ verdict_in (value_tests (typed width signed) a b at) rest }
+// Two i64 fields from at on.
+pub fn value_tests(p: PointType, a: u64, b: u64, at: usize) -> Result<(), Fault>
+    requires { at ≤ 100000 }
+    ensures { result ≡ verdict_in (value_tests (typed p.width p.signed) a b at) (Ok tt) }
 {
-    let l = limits_of(width, signed);
-    let e = end_tests(l, a, b);
-    if all_pass(e) {
-        return rest;
-    }
-    let r3 = test(e.ordered, 16, at + 8, rest);
-    let r2 = test(e.last, 16, at + 8, r3);
-    test(e.first, 16, at, r2)
+    let e = end_tests(limits_of(p), a, b);
+    test(e.first, FaultClass::Value, at)?;
+    test(e.last, FaultClass::Value, at + 8)?;
+    test(e.ordered, FaultClass::Value, at + 8)
 }
 
-fn pattern_tests(width: u8, signed: bool, a: u64, b: u64, at: usize, rest: Verdict) -> Verdict
-    requires { (1 ≤ width) × (width ≤ 32) × (at ≤ 100000) }
-    ensures { result ≡ verdict_in (pattern_tests (typed width signed) a b at) rest }
+fn pattern_tests(p: PointType, a: u64, b: u64, at: usize) -> Result<(), Fault>
+    requires { at ≤ 100000 }
+    ensures { result ≡ verdict_in (pattern_tests (typed p.width p.signed) a b at) (Ok tt) }
 {
-    let all = power(width);
-    let bits = a < all;
-    let mask = b < all;
-    let masked = a & b == a;
-    if bits & mask & masked {
-        return rest;
-    }
-    let r3 = test(masked, 16, at + 8, rest);
-    let r2 = test(mask, 16, at + 8, r3);
-    test(bits, 16, at, r2)
+    let all = power(p.width);
+    test(a < all, FaultClass::Value, at)?;
+    test(b < all, FaultClass::Value, at + 8)?;
+    test(a & b == a, FaultClass::Value, at + 8)
 }
 
 fn range_rules(
-    width: u8,
-    signed: bool,
+    p: PointType,
     patterns: bool,
     kind: u8,
     a: u64,
     b: u64,
     at: usize,
-) -> Verdict
-    requires { (1 ≤ width) × (width ≤ 32) × (at ≤ 65536) }
-    ensures { result ≡ verdict_in (range_rules (typed width signed) patterns kind a b at) (verdict 0 (at + 17)) }
+) -> Result<(), Fault>
+    requires { at ≤ 65536 }
+    ensures { result ≡ verdict_in (range_rules (typed p.width p.signed) patterns kind a b at) (Ok tt) }
 {
-    let end = sound(at + 17);
     if kind == 0 {
-        return value_tests(width, signed, a, b, at + 1, end);
+        return value_tests(p, a, b, at + 1);
     }
-    let p = pattern_tests(width, signed, a, b, at + 1, end);
-    test((kind == 1) & patterns & !signed, 15, at, p)
+    test((kind == 1) & patterns & !p.signed, FaultClass::Field, at)?;
+    pattern_tests(p, a, b, at + 1)
 }
 
-// The range at at, of a point of that type.
-fn range_fault(t: &[u8], width: u8, signed: bool, patterns: bool, at: usize) -> Verdict
-    requires { (at ≤ length t.now) × (length t.now ≤ 65536) × (1 ≤ width) × (width ≤ 32) }
-    ensures { result ≡ verdict_of (read_range t.now (typed width signed) patterns at) }
+// The tests of the range at at, which is whole, of a point of that type.
+fn range_tests(t: &[u8], p: PointType, patterns: bool, at: usize) -> Result<(), Fault>
+    requires { (at + 17 ≤ length t.now) × (length t.now ≤ 65536) }
+    ensures { result ≡ verdict_in (range_tests t.now (typed p.width p.signed) patterns at) (Ok tt) }
 {
-    if t.len() < at + 17 {
-        return fault(2, at);
-    }
     let kind = inside(t, at);
     let a = whole8(t, at + 1);
     let b = whole8(t, at + 9);
-    range_rules(width, signed, patterns, kind, a, b, at)
+    range_rules(p, patterns, kind, a, b, at)
 }
 
 // Whether the range at at is a span that passes its tests.
@@ -178,13 +173,11 @@ fn spans_in(t: &[u8], l: Limits, n: usize, start: usize) -> bool
     ensures { result ≡ spans_in t.now l n start }
 {
     let mut at = start;
-    let mut i = 0;
-    while i < n {
+    for i in 0..n {
         if !span_in(t, l, at) {
             return false;
         }
         at += 17;
-        i += 1;
     }
     true
 }
@@ -197,43 +190,15 @@ pub fn sound_spans(t: &[u8], point: usize, n: usize, start: usize) -> bool
     if t.len() < start + 17 * n {
         return false;
     }
-    let width = inside(t, point);
-    let signed = inside(t, point + 1);
-    let l = limits_of(width, signed == 1);
-    spans_in(t, l, n, start)
+    let p = type_at(t, point);
+    spans_in(t, limits_of(p), n, start)
 }
 
-// n ranges from start on.
-fn typed_ranges(
-    t: &[u8],
-    width: u8,
-    signed: bool,
-    patterns: bool,
-    n: usize,
-    start: usize,
-) -> Verdict
-    requires { (start ≤ length t.now) × (length t.now ≤ 65536) × (1 ≤ width) × (width ≤ 32) }
-    ensures { result ≡ verdict_of (times n (read_range t.now (typed width signed) patterns) start) }
-{
-    let mut at = start;
-    let mut i = 0;
-    while i < n {
-        let r = range_fault(t, width, signed, patterns, at);
-        if r.number != 0 {
-            return r;
-        }
-        at = r.at;
-        i += 1;
-    }
-    sound(at)
-}
-
-// The same of the point whose record is at point.
+// n ranges from start on, of the point whose record is at point.
 pub fn ranges_of(t: &[u8], point: usize, patterns: bool, n: usize, start: usize) -> Verdict
     requires { (start ≤ length t.now) × (point ≤ 65536) × (length t.now ≤ 65536) × Wide t.now point }
     ensures { result ≡ verdict_of (times n (read_range t.now (point_record t.now point) patterns) start) }
 {
-    let width = byte(t, point);
-    let signed = byte(t, point + 1);
-    typed_ranges(t, width, signed == 1, patterns, n, start)
+    let p = type_at(t, point);
+    records(t, 17, n, start, |at| range_tests(t, p, patterns, at))
 }

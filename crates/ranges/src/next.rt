@@ -8,12 +8,6 @@ ghost use Rattle.model.specs.Raw.{ranges_at};
 use crate::value_at;
 use words::bytes::{byte, read8};
 
-pub fn least(a: u64, b: u64) -> u64
-    ensures { result ≡ min a b }
-{
-    if a < b { a } else { b }
-}
-
 // The quotient, at most last.
 pub fn capped(x: u64, share: u64, last: u64) -> u64
     requires { 1 ≤ share }
@@ -22,20 +16,7 @@ pub fn capped(x: u64, share: u64, last: u64) -> u64
     if last == 0 {
         return 0;
     }
-    least(x / share, last)
-}
-
-pub fn larger(a: u64, b: u64) -> u64
-    ensures { result ≡ max a b }
-{
-    if a < b { b } else { a }
-}
-
-// The difference, or 0.
-pub fn less(a: u64, b: u64) -> u64
-    ensures { result ≡ a - b }
-{
-    if a < b { 0 } else { a - b }
+    (x / share).min(last)
 }
 
 // The least number from x up whose n low bits are those of bits wherever mask has a 1: found for the halves first.
@@ -46,9 +27,9 @@ fn pattern_from(n: u8, bits: u64, mask: u64, x: u64) -> u64
     if n == 0 {
         return x;
     }
-    let from = less(x + mask % 2, bits % 2) / 2;
+    let from = (x + mask % 2).saturating_sub(bits % 2) / 2;
     let half = pattern_from(n - 1, bits / 2, mask / 2, from);
-    larger(x, 2 * half + bits % 2)
+    x.max(2 * half + bits % 2)
 }
 
 // The least number from x up that fits the pattern.
@@ -63,7 +44,7 @@ pub fn next_pattern(bits: u64, mask: u64, x: u64) -> u64
 pub fn next_in_span(lo: u64, hi: u64, x: u64) -> u64
     ensures { result ≡ next_in_range (span lo hi) x }
 {
-    let from = larger(lo, x);
+    let from = lo.max(x);
     if x <= hi { from } else { 8589934592 }
 }
 
@@ -71,7 +52,7 @@ pub fn next_in_pattern(bits: u64, mask: u64, x: u64) -> u64
     requires { x ≤ 8589934592 }
     ensures { result ≡ next_in_range (pattern bits mask) x }
 {
-    let number = less(x, 2147483648);
+    let number = x.saturating_sub(2147483648);
     2147483648 + next_pattern(bits, mask, number)
 }
 
@@ -94,15 +75,13 @@ pub fn next_in(t: &[u8], start: usize, n: usize, x: u64) -> u64
     requires { (start ≤ 2000000000) × (n ≤ 65535) }
     ensures { (result ≡ next_in (ranges_at t.now start n) x) × (result ≤ 8589934592) }
 {
-    let from = least(x, 8589934592);
+    let from = x.min(8589934592);
     let mut best: u64 = 8589934592;
     let mut at = start;
-    let mut i = 0;
-    while i < n {
+    for i in 0..n {
         let v = next_at(t, at, from);
-        best = least(best, v);
+        best = best.min(v);
         at += 17;
-        i += 1;
     }
     best
 }

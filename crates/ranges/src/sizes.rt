@@ -4,7 +4,6 @@ ghost use Rattle.model.specs.Format.{range_record};
 ghost use Rattle.model.specs.Ranges.{size, sizes};
 ghost use Rattle.model.specs.Raw.{ranges_at};
 
-use crate::next::least;
 use crate::value_at;
 use words::bytes::{byte, read8};
 
@@ -15,7 +14,7 @@ pub fn span_size(a: u64, b: u64) -> u64
     if b < a {
         0
     } else {
-        least(b - a, 1152921504606846975) + 1
+        (b - a).min(1152921504606846975) + 1
     }
 }
 
@@ -40,11 +39,9 @@ pub fn sizes_at(t: &[u8], start: usize, n: usize) -> u64
 {
     let mut sum: u64 = 0;
     let mut at = start;
-    let mut i = 0;
-    while i < n {
+    for i in 0..n {
         sum += size_at(t, at);
         at += 17;
-        i += 1;
     }
     sum
 }

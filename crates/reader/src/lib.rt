@@ -20,10 +20,10 @@ pub fn part_at(table: &[u8], at: usize, size: usize) -> Part
     requires { (at < 4294967296) × (size ≤ 20) }
     ensures { result ≡ part_at table.now at size }
 {
-    let count = read2(table, at);
+    let count = usize::from(read2(table, at));
     let from = at + 2;
-    let to = from + (count as usize) * size;
-    Part { from: from, to: to }
+    let to = from + count * size;
+    Part { from, to }
 }
 
 // Document 01's reader, which holds the lent table and its place and walks it. The place is that of a section's count.
@@ -53,10 +53,9 @@ impl<'a> Reader<'a> {
         requires { (self.at < 4294967296) × (size ≤ 20) }
         ensures { result ≡ next_count self.entry size }
     {
-        let p = part_at(self.table, self.at, size);
         Reader {
             table: self.table,
-            at: p.to,
+            at: self.records(size).to,
         }
     }
 }
@@ -66,7 +65,7 @@ pub fn record_size(k: u32) -> usize
     ensures { (result ≡ get_or record_sizes k 0) × (result ≤ 20) }
 {
     let sizes: [usize; 10] = [11, 8, 17, 4, 1, 3, 17, 13, 3, 20];
-    if k < 10 { sizes[k as usize] } else { 0 }
+    sizes.get(k as usize).copied().unwrap_or(0)
 }
 
 // The records of section k + 1: a reader walks from count to count, and is asked at the last.
@@ -75,10 +74,8 @@ pub fn records_of(table: &[u8], k: u32) -> Part
     ensures { result ≡ section_part table.now (k + 1) }
 {
     let mut reader = reader_at(table, 0);
-    let mut i: u32 = 0;
-    while i < k {
+    for i in 0..k {
         reader = reader.next(record_size(i));
-        i += 1;
     }
     reader.records(record_size(k))
 }
@@ -98,10 +95,9 @@ pub fn section_bytes(table: &[u8], number: u32) -> &[u8]
     ensures { result.now ≡ section_bytes table.now number }
 {
     let p = section_part(table, number);
-    let from = p.from;
-    let to = p.to;
-    if to <= table.len() {
-        return &table[from..to];
+    if p.to <= table.len() {
+        &table[p.from..p.to]
+    } else {
+        &table[0..0]
     }
-    &table[0..0]
 }

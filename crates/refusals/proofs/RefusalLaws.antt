@@ -14,6 +14,11 @@ use Rattle.model.specs.Table.{Table}
 use Rattle.model.specs.Register.{point_total, counter_total, flag_of, samples_of, counts_of, unknowns_of, words_needed, consistent, long_enough, register_tests, call_tests}
 use Rattle.model.proofs.Lists.{all-parts}
 use Rattle.table.specs.declared.answer.Facts.{Facts}
+use Rattle.std.proofs.Common.{Result, Err}
+use Rattle.refusals.specs.Numbers.{number_of, pass}
+use Rattle.refusals.specs.declared.refusal.Refusal.{Refusal}
+use Rattle.refusals.specs.declared.refusal.Refusal.TheVariants.{Short, Inconsistent, NoPart}
+use Rattle.refusals.proofs.Numbers.{never-none}
 use Rattle.refusals.specs.Refusals.{Describes, words_of, at_most, consistent_at, RegisterRefusal, PartRefusal, ItemRefusal}
 
 -- ---- the register
@@ -34,11 +39,11 @@ module _ (f : Facts) (w : List ℕ) where
   unfolding words_needed
   words_by t d = omega (arith, d.points, d.counters, d.runs)
 
-  pub too_short : length w < words_of f → RegisterRefusal f w 7
+  pub too_short : length w < words_of f → RegisterRefusal f w (Err Short)
   unfolding first_failed
   too_short h = record {
     exact = λ t d. rw (lt-leb (words_needed t) (length w) (omega (arith, words_by t d)));
-    long = λ z. absurd (let y : 7 ≡ 0 = z in omega arith);
+    long = λ z. absurd (cc);
   }
 
   module _ (h : words_of f ≤ length w) (ok : Bool) (e : ok ≡ consistent_at (f.counters + f.points) w) where
@@ -48,13 +53,13 @@ module _ (f : Facts) (w : List ℕ) where
         ap₂ (λ (x y : Bool). cond x (cond y 0 8) 7) (le-leb (words_needed t) (length w) (omega (arith, words_by t d)))
         (sym (e ∙ consistent_by t w (f.counters + f.points) (omega (arith, d.points, d.counters))))
 
-    pub register-passes : ok ≡ true → RegisterRefusal f w 0
+    pub register-passes : ok ≡ true → RegisterRefusal f w pass
     register-passes b = record {
       exact = λ t d. sym (exact-by t d ∙ ap (λ (x : Bool). cond x 0 8) b);
       long = λ z. h;
     }
 
-    pub not-consistent : ok ≡ false → RegisterRefusal f w 8
+    pub not-consistent : ok ≡ false → RegisterRefusal f w (Err Inconsistent)
     not-consistent b = record {
       exact = λ t d. sym (exact-by t d ∙ ap (λ (x : Bool). cond x 0 8) b);
       long = λ z. h;
@@ -62,11 +67,11 @@ module _ (f : Facts) (w : List ℕ) where
 
 -- ---- what comes after the register's tests
 
-register_stop : (a b : Bool) (rest : List (Bool × ℕ)) (r : ℕ) → r ≡ first_failed ((a, 7) ∷ (b, 8) ∷ []) → (r ≡ 0 → ⊥) → r ≡ first_failed ((a, 7) ∷ (b, 8) ∷ rest)
+register_stop : (a b : Bool) (rest : List (Bool × ℕ)) (x : Refusal) → number_of x ≡ first_failed ((a, 7) ∷ (b, 8) ∷ []) → number_of x ≡ first_failed ((a, 7) ∷ (b, 8) ∷ rest)
 unfolding first_failed
-register_stop true true rest r e z = absurd (z e)
-register_stop true false rest r e z = e
-register_stop false b rest r e z = e
+register_stop true true rest x e = absurd (never-none x e)
+register_stop true false rest x e = e
+register_stop false b rest x e = e
 
 register_on : (a b : Bool) (rest : List (Bool × ℕ)) → 0 ≡ first_failed ((a, 7) ∷ (b, 8) ∷ []) → first_failed ((a, 7) ∷ (b, 8) ∷ rest) ≡ first_failed rest
 unfolding first_failed
@@ -74,38 +79,39 @@ register_on true true rest e = refl
 register_on true false rest e = absurd (let y : 0 ≡ 8 = e in omega arith)
 register_on false b rest e = absurd (let y : 0 ≡ 7 = e in omega arith)
 
-module _ (f : Facts) (w : List ℕ) (r : ℕ) (known : RegisterRefusal f w r) where
-  pub after_stop : (r ≡ 0 → ⊥) → (t : Table) → Describes f t → (rest : List (Bool × ℕ)) → r ≡ first_failed (register_tests t w ++ rest)
-  after_stop z t d rest = register_stop (long_enough t w) (consistent t w) rest r (known.exact t d) z
+module _ (f : Facts) (w : List ℕ) where
+  pub after_stop : (x : Refusal) → RegisterRefusal f w (Err x) → (t : Table) → Describes f t → (rest : List (Bool × ℕ)) → number_of x ≡ first_failed (register_tests t w ++ rest)
+  after_stop x known t d rest = register_stop (long_enough t w) (consistent t w) rest x (known.exact t d)
 
-  pub after_on : r ≡ 0 → (t : Table) → Describes f t → (rest : List (Bool × ℕ)) → first_failed (register_tests t w ++ rest) ≡ first_failed rest
-  after_on z t d rest = register_on (long_enough t w) (consistent t w) rest (sym z ∙ known.exact t d)
+  pub after_on : RegisterRefusal f w pass → (t : Table) → Describes f t → (rest : List (Bool × ℕ)) → first_failed (register_tests t w ++ rest) ≡ first_failed rest
+  after_on known t d rest = register_on (long_enough t w) (consistent t w) rest (known.exact t d)
 
   module _ (i n : ℕ) where
-    pub part-stop : (r ≡ 0 → ⊥) → PartRefusal f w i n r
-    part-stop z = record {
-      exact = λ t d. after_stop z t d ((ltb i n, 14) ∷ []);
+    pub part-stop : (x : Refusal) → RegisterRefusal f w (Err x) → PartRefusal f w i n (Err x)
+    part-stop x known = record {
+      exact = λ t d. after_stop x known t d ((ltb i n, 14) ∷ []);
       long = known.long;
-      inside = λ e. absurd (z e);
+      inside = λ e. absurd (cc);
     }
 
-    pub part-passes : r ≡ 0 → i < n → PartRefusal f w i n 0
-    unfolding first_failed
-    part-passes z h = record {
-      exact = λ t d. sym (after_on z t d ((ltb i n, 14) ∷ []) ∙ ap (λ (x : Bool). cond x 0 14) (lt-ltb i n h));
-      long = λ e. known.long z;
-      inside = λ e. h;
-    }
+    module _ (known : RegisterRefusal f w pass) where
+      pub part-passes : i < n → PartRefusal f w i n pass
+      unfolding first_failed
+      part-passes h = record {
+        exact = λ t d. sym (after_on known t d ((ltb i n, 14) ∷ []) ∙ ap (λ (x : Bool). cond x 0 14) (lt-ltb i n h));
+        long = λ e. known.long refl;
+        inside = λ e. h;
+      }
 
-    pub no_part : r ≡ 0 → n ≤ i → PartRefusal f w i n 14
-    unfolding first_failed
-    no_part z h = record {
-      exact = λ t d. sym (after_on z t d ((ltb i n, 14) ∷ []) ∙ ap (λ (x : Bool). cond x 0 14) (le-ltb i n h));
-      long = λ e. known.long z;
-      inside = λ e. absurd (let y : 14 ≡ 0 = e in omega arith);
-    }
+      pub no_part : n ≤ i → PartRefusal f w i n (Err NoPart)
+      unfolding first_failed
+      no_part h = record {
+        exact = λ t d. sym (after_on known t d ((ltb i n, 14) ∷ []) ∙ ap (λ (x : Bool). cond x 0 14) (le-ltb i n h));
+        long = λ e. known.long refl;
+        inside = λ e. absurd (cc);
+      }
 
-pub item-part : (f : Facts) (w : List ℕ) (i items r : ℕ) → PartRefusal f w i items r → ItemRefusal f w i items r
+pub item-part : (f : Facts) (w : List ℕ) (i items : ℕ) (r : Result Unit Refusal) → PartRefusal f w i items r → ItemRefusal f w i items r
 unfolding call_tests
 item-part f w i items r p = record {
   exact = λ t d e. p.exact t d ∙ ap (λ (n : ℕ). first_failed (register_tests t w ++ (ltb i n, 14) ∷ [])) e;

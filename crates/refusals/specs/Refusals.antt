@@ -1,6 +1,6 @@
 -- The refusals of a call: the table's own, then the first of the call's tests that fails.
 -- Assumes nothing.
-use Rattle.std.specs.Prelude.{ℕ, ◌+◌, ◌*◌, ◌^◌, ◌≤◌, ◌<◌, ◌≡◌, Bool, ◌&&◌, List, [], ◌∷◌, ◌++◌, leb, ltb, eqb, length, take, drop}
+use Rattle.std.specs.Prelude.{ℕ, ◌+◌, ◌*◌, ◌^◌, ◌≤◌, ◌<◌, ◌≡◌, Bool, ◌&&◌, List, [], ◌∷◌, ◌++◌, leb, ltb, eqb, length, take, drop, Result, Ok}
 use Rattle.model.specs.Lists.{up_from, all, first_failed}
 use Rattle.model.specs.Table.{Table}
 use Rattle.model.specs.Sampling.{value_word, unknown_word}
@@ -10,6 +10,8 @@ use Rattle.model.specs.Raw.{records_place}
 use Rattle.model.specs.Register.{point_total, counter_total, run_total, illegal_total, flag_of, samples_of, Call, ask_item, register_tests, last_sample, call_tests}
 use Rattle.table.specs.declared.answer.Facts.{Facts}
 use Rattle.table.specs.Check.{facts_of}
+use Rattle.refusals.specs.Numbers.{number_in, pass}
+use Rattle.refusals.specs.declared.refusal.Refusal.{Refusal}
 
 -- ---- a table's facts
 
@@ -33,21 +35,21 @@ at_most most n = leb n most
 unfoldable pub consistent_at : ℕ → List ℕ → Bool
 consistent_at n w = leb (flag_of w) 1 && all (at_most (samples_of w)) (take n (drop 2 w))
 
--- 7, 8, else 0
-pub record RegisterRefusal (f : Facts) (w : List ℕ) (r : ℕ) : Type 0 where
-  pub exact : (t : Table) → Describes f t → r ≡ first_failed (register_tests t w)
-  pub long : r ≡ 0 → words_of f ≤ length w
+-- 7, 8, else 0; r is an answer
+pub record RegisterRefusal (f : Facts) (w : List ℕ) (r : Result Unit Refusal) : Type 0 where
+  pub exact : (t : Table) → Describes f t → number_in r ≡ first_failed (register_tests t w)
+  pub long : r ≡ pass → words_of f ≤ length w
 
 -- then 14 if i is not below n
-pub record PartRefusal (f : Facts) (w : List ℕ) (i n : ℕ) (r : ℕ) : Type 0 where
-  pub exact : (t : Table) → Describes f t → r ≡ first_failed (register_tests t w ++ (ltb i n, 14) ∷ [])
-  pub long : r ≡ 0 → words_of f ≤ length w
-  pub inside : r ≡ 0 → i < n
+pub record PartRefusal (f : Facts) (w : List ℕ) (i n : ℕ) (r : Result Unit Refusal) : Type 0 where
+  pub exact : (t : Table) → Describes f t → number_in r ≡ first_failed (register_tests t w ++ (ltb i n, 14) ∷ [])
+  pub long : r ≡ pass → words_of f ≤ length w
+  pub inside : r ≡ pass → i < n
 
-pub record ItemRefusal (f : Facts) (w : List ℕ) (i items : ℕ) (r : ℕ) : Type 0 where
-  pub exact : (t : Table) → Describes f t → items ≡ item_count t → r ≡ first_failed (call_tests t w (ask_item i))
-  pub long : r ≡ 0 → words_of f ≤ length w
-  pub inside : r ≡ 0 → i < items
+pub record ItemRefusal (f : Facts) (w : List ℕ) (i items : ℕ) (r : Result Unit Refusal) : Type 0 where
+  pub exact : (t : Table) → Describes f t → items ≡ item_count t → number_in r ≡ first_failed (call_tests t w (ask_item i))
+  pub long : r ≡ pass → words_of f ≤ length w
+  pub inside : r ≡ pass → i < items
 
 -- ---- a sample's tests
 
@@ -75,6 +77,7 @@ refusal_from (decoded t) w c = first_failed (call_tests t w c)
 unfoldable pub refusal_in : List ℕ → List ℕ → Call → ℕ
 refusal_in s w c = refusal_from (decode s) w c
 
-pub record CallRefusal (f : Facts) (w : List ℕ) (c : Call) (r : ℕ) : Type 0 where
-  pub exact : (s : List ℕ) → f ≡ facts_of s → r ≡ refusal_in s w c
-  pub long : r ≡ 0 → words_of f ≤ length w
+-- the answer of the call's own tests, where the table with those facts is accepted
+pub record CallRefusal (f : Facts) (w : List ℕ) (c : Call) (r : Result Unit Refusal) : Type 0 where
+  pub exact : (s : List ℕ) → Ok f ≡ facts_of s → number_in r ≡ refusal_in s w c
+  pub long : r ≡ pass → words_of f ≤ length w

@@ -1,12 +1,16 @@
-// The refusals of a call, in order: a number, and 0 if no test fails.
+// The tests of a call, in order: the first that fails refuses it.
 #![tactic(auto)]
 
-ghost use Rattle.std.specs.Prelude.{◌≡◌, cond, ◌+◌, ◌-◌, ◌^◌, ◌<◌, ◌≤◌, ltb, length, take, drop};
+pub mod refusal;
+
+ghost use Rattle.std.specs.Prelude.{◌≡◌, ◌+◌, ◌-◌, ◌^◌, ◌<◌, ◌≤◌, ltb, length, take, drop, IfOk};
 ghost use Rattle.model.specs.Lists.{all};
 ghost use Rattle.model.specs.Register.{samples_of, reset, start, ask_counter, ask_unknown};
 ghost use Rattle.table.specs.Check.{Few};
+ghost use Rattle.refusals.specs.Numbers.{number_in, tested};
 ghost use Rattle.refusals.specs.Refusals.{at_most, consistent_at, in_width_at, in_widths_at, own_refusal, RegisterRefusal, PartRefusal, ItemRefusal, CallRefusal};
 
+use crate::refusal::Refusal;
 use table::answer::Facts;
 use values::fields::word;
 use words::bytes::byte;
@@ -17,12 +21,10 @@ fn counts_hold(register: &[u32], end: usize) -> bool
     ensures { result ≡ all (at_most (samples_of register.now)) (take (end - 2) (drop 2 register.now)) }
 {
     let samples = register[1];
-    let mut i = 2;
-    while i < end {
+    for i in 2..end {
         if samples < register[i] {
             return false;
         }
-        i += 1;
     }
     true
 }
@@ -37,36 +39,35 @@ fn consistent(register: &[u32], n: usize) -> bool
     (flag <= 1) & hold
 }
 
-// The register is too short, or not consistent.
-pub fn register_refusal(register: &[u32], f: Facts) -> u32
+// Too short for the table, or not consistent.
+pub fn test_register(register: &[u32], f: Facts) -> Result<(), Refusal>
     requires { Few f }
     ensures { RegisterRefusal f register.now result }
 {
     let n = f.counters + f.points;
-    let runs = f.runs;
-    if register.len() < 2 + n + runs {
-        return 7;
+    if register.len() < 2 + n + f.runs {
+        return Err(Refusal::Short);
     }
-    if consistent(register, n) { 0 } else { 8 }
+    if !consistent(register, n) {
+        return Err(Refusal::Inconsistent);
+    }
+    Ok(())
 }
 
-// Then there is no part i: the table has n.
-fn part_refusal(register: &[u32], i: usize, n: usize, f: Facts) -> u32
+// Then: there is no part i, of the table's n.
+fn test_part(register: &[u32], i: usize, n: usize, f: Facts) -> Result<(), Refusal>
     requires { Few f }
     ensures { PartRefusal f register.now i n result }
 {
-    let r = register_refusal(register, f);
-    if r != 0 {
-        return r;
-    }
-    if i < n { 0 } else { 14 }
+    test_register(register, f)?;
+    if i < n { Ok(()) } else { Err(Refusal::NoPart) }
 }
 
-pub fn item_refusal(register: &[u32], item: usize, items: usize, f: Facts) -> u32
+pub fn test_item(register: &[u32], item: usize, items: usize, f: Facts) -> Result<(), Refusal>
     requires { Few f }
     ensures { ItemRefusal f register.now item items result }
 {
-    part_refusal(register, item, items, f)
+    test_part(register, item, items, f)
 }
 
 // No bit of x stands above the width.
@@ -94,25 +95,23 @@ fn in_widths(t: &[u8], sample: &[u32], points: usize) -> bool
     requires { points < 65536 }
     ensures { result ≡ in_widths_at t.now sample.now points }
 {
-    let mut p = 0;
-    while p < points {
+    for p in 0..points {
         if !point_in_width(t, sample, p) {
             return false;
         }
-        p += 1;
     }
     true
 }
 
-// A test, and what those after it say.
-fn unless(ok: bool, number: u32, rest: u32) -> u32
-    ensures { result ≡ cond ok rest number }
+// One test.
+fn test(ok: bool, refusal: Refusal) -> Result<(), Refusal>
+    ensures { result ≡ tested ok refusal }
 {
-    if ok { rest } else { number }
+    if ok { Ok(()) } else { Err(refusal) }
 }
 
-// The sample's own tests, last first, for a register with this flag and so many samples. points and illegals are the table's.
-pub fn own_refusal(
+// The sample's own tests, for a register with this flag and so many samples. points and illegals are the table's.
+pub fn test_sample(
     t: &[u8],
     sample: &[u32],
     report: &[u32],
@@ -120,62 +119,49 @@ pub fn own_refusal(
     samples: u32,
     points: usize,
     illegals: usize,
-) -> u32
+) -> Result<(), Refusal>
     requires { points < 65536 }
-    ensures { result ≡ own_refusal t.now points illegals sample.now report.now flag samples }
+    ensures { number_in result ≡ own_refusal t.now points illegals sample.now report.now flag samples }
 {
-    let full = unless(samples < 4294967295, 9, 0);
-    let stopped = unless(flag == 1, 10, full);
-    let room = unless(illegals <= report.len(), 11, stopped);
-    let wide = unless(in_widths(t, sample, points), 13, room);
-    unless(sample.len() == 4 + 2 * points, 12, wide)
+    test(sample.len() == 4 + 2 * points, Refusal::Length)?;
+    test(in_widths(t, sample, points), Refusal::Width)?;
+    test(illegals <= report.len(), Refusal::Report)?;
+    test(flag == 1, Refusal::Stopped)?;
+    test(samples < 4294967295, Refusal::Full)
 }
 
-// A reset: the table is refused, or the register is too short.
-pub fn reset_refusal(register: &[u32], f: Facts) -> u32
+// A reset needs words enough.
+pub fn test_reset(register: &[u32], f: Facts) -> Result<(), Refusal>
     requires { Few f }
     ensures { CallRefusal f register.now reset result }
 {
-    let number = f.number;
-    if number != 0 {
-        return number;
-    }
     let words = 2 + f.counters + f.points + f.runs;
-    if register.len() < words { 7 } else { 0 }
+    if register.len() < words {
+        return Err(Refusal::Short);
+    }
+    Ok(())
 }
 
 // A start, and a stop.
-pub fn start_refusal(register: &[u32], f: Facts) -> u32
+pub fn test_start(register: &[u32], f: Facts) -> Result<(), Refusal>
     requires { Few f }
     ensures { CallRefusal f register.now start result }
 {
-    let number = f.number;
-    if number != 0 {
-        return number;
-    }
-    register_refusal(register, f)
+    test_register(register, f)
 }
 
-pub fn counter_refusal(register: &[u32], place: usize, f: Facts) -> u32
+pub fn test_counter(register: &[u32], place: usize, f: Facts) -> Result<(), Refusal>
     requires { Few f }
     ensures call_refusal { CallRefusal f register.now (ask_counter place) result }
-    ensures place_lt_counters { result ≡ 0 → place < f.counters }
+    ensures place_lt_counters { IfOk result (λ _. place < f.counters) }
 {
-    let number = f.number;
-    if number != 0 {
-        return number;
-    }
-    part_refusal(register, place, f.counters, f)
+    test_part(register, place, f.counters, f)
 }
 
-pub fn unknown_refusal(register: &[u32], point: usize, f: Facts) -> u32
+pub fn test_unknown(register: &[u32], point: usize, f: Facts) -> Result<(), Refusal>
     requires { Few f }
     ensures call_refusal { CallRefusal f register.now (ask_unknown point) result }
-    ensures point_lt_points { result ≡ 0 → point < f.points }
+    ensures point_lt_points { IfOk result (λ _. point < f.points) }
 {
-    let number = f.number;
-    if number != 0 {
-        return number;
-    }
-    part_refusal(register, point, f.points, f)
+    test_part(register, point, f.points, f)
 }

@@ -1,16 +1,15 @@
 // The entries of a log, one after the other; samples that follow one another, by blocks.
-ghost use Rattle.std.specs.Prelude.{◌≡◌, ◌+◌, ◌*◌, ◌≤◌, ◌<◌, length};
+ghost use Rattle.std.specs.Prelude.{◌≡◌, ◌+◌, ◌*◌, ◌≤◌, ◌<◌, length, OnOk};
 ghost use Rattle.turns.specs.Batch.{batch};
 ghost use Rattle.turns.specs.Turns.{Took};
 ghost use Rattle.sample_log.specs.Samples.{samples_in};
 ghost use Rattle.sample_log.specs.Held.{Held, Onward};
 
-use places::put_of_kind;
-use report::illegals::say_reports;
-use sample_log::samples::{Block, block_of, put_samples};
-use sample_log::{
-    GOING, Log, OF_NO_KIND, REFUSED, at_end, have_bytes, new_log, outcome, past, stopped,
-};
+use places::put_illegals;
+use refusals::refusal::number;
+use report::illegals::{Illegals, Sample};
+use sample_log::samples::{block_of, put_samples};
+use sample_log::state::{Log, Stop};
 use std::fs::File;
 use streams::out::Out;
 use turns::Taken;
@@ -19,13 +18,6 @@ use words::bytes::read4;
 
 // Entries are taken below this number.
 const LAST: u64 = 18446744073709486080;
-
-// The illegal places, and from 12,416 on how often the line of each was shown; and the reports of a block.
-#[derive(Drop)]
-struct Raised {
-    illegals: [u16; 24832],
-    reports: [u32; 12416],
-}
 
 // A block whose bytes have come: the register takes its samples.
 fn give_samples(
@@ -45,130 +37,94 @@ fn give_samples(
     batch::samples(table, register, &samples[..n], reports)
 }
 
-// The samples of a block were taken, or those before a refused one.
-fn after_block(log: Log, block: Block, t: Taken) -> Log
-    requires { Held log log.to × (log.from + block.size ≤ log.to) × (0 < block.count) × (block.count ≤ 256) × (t.taken ≤ 9216) × (log.entry < 18446744073709486080) }
-    ensures { Held result log.to × Onward log result }
-{
-    if t.number != 0 {
-        return stopped(past(log, 0, t.taken), REFUSED, t.number);
-    }
-    past(log, block.size, block.count)
+// A register that takes the log's entries; what is raised is told on the output.
+#[derive(Drop)]
+struct Replay<'o, 't, 'r> {
+    out: &'o mut Out,
+    table: &'t [u8],
+    register: &'r mut [u32],
+    illegals: Illegals,
+    reports: [u32; 12416],
+    log: Log,
 }
 
-// A block from the bytes that stand in the buffer: a whole sample, and those that follow it.
-fn take_block(
-    out: &mut Out,
-    register: &mut [u32],
-    table: &[u8],
-    raised: &mut Raised,
-    bytes: &[u8],
-    log: Log,
-) -> Log
-    requires { Held log log.to × (log.from + length bytes.now ≡ log.to) × (20 + 8 * log.points ≤ length bytes.now) × (log.entry < 18446744073709486080) }
-    ensures { Held result log.to × Onward log result }
-{
-    let points = log.points;
-    let n = log.illegals;
-    let before = word(register, 1) as u64;
-    let block = block_of(bytes, points, n);
-    let t = give_samples(
-        register,
-        &mut raised.reports,
-        table,
-        bytes,
-        points,
-        block.count,
-    );
-    let next = after_block(log, block, t);
-    say_reports(
-        out,
-        &mut raised.illegals,
-        &raised.reports,
-        n,
-        t,
-        before + 1,
-        log.entry,
-    );
-    next
-}
+impl<'o, 't, 'r> Replay<'o, 't, 'r> {
+    // A block from the bytes that stand in the buffer: a whole sample, and those that follow it.
+    fn take_block(&mut self, bytes: &[u8]) -> Result<(), Stop>
+        requires { (self.old.log.from + length bytes.now ≡ self.old.log.to) × (20 + 8 * self.old.log.points ≤ length bytes.now) × (self.old.log.entry < 18446744073709486080) }
+        ensures held { Held self.new.log self.old.log.to }
+        ensures onward { OnOk result (Onward self.old.log self.new.log) }
+    {
+        let points = self.log.points;
+        let first = Sample {
+            number: u64::from(word(self.register, 1)) + 1,
+            entry: self.log.entry,
+        };
+        let block = block_of(bytes, points, self.log.illegals);
+        let t = give_samples(
+            self.register,
+            &mut self.reports,
+            self.table,
+            bytes,
+            points,
+            block.count,
+        );
+        // Where a write fails, the log is still taken to its end.
+        let _ = self
+            .illegals
+            .say_reports(self.out, &self.reports, t.taken, first);
+        if let Err(refusal) = t.end {
+            self.log.pass(0, t.taken);
+            return Err(Stop::Refused(u32::from(refusal)));
+        }
+        self.log.pass(block.size, block.count);
+        Ok(())
+    }
 
-fn take_samples(
-    out: &mut Out,
-    register: &mut [u32],
-    table: &[u8],
-    raised: &mut Raised,
-    bytes: &mut [u8],
-    file: &mut File,
-    log: Log,
-) -> Log
-    requires { Held log (length bytes.old) × (log.entry < 18446744073709486080) }
-    ensures { Held result (length bytes.new) × Onward log result }
-{
-    let points = log.points;
-    let body = have_bytes(bytes, file, log, 20 + 8 * points);
-    if body.state != GOING {
-        return body;
+    fn take_samples(&mut self, bytes: &mut [u8], file: &mut File) -> Result<(), Stop>
+        requires { Held self.old.log (length bytes.old) × (self.old.log.entry < 18446744073709486080) }
+        ensures held { Held self.new.log (length bytes.new) }
+        ensures onward { OnOk result (Onward self.old.log self.new.log) }
+    {
+        let size = 20 + 8 * self.log.points;
+        self.log.have_bytes(bytes, file, size)?;
+        self.take_block(&bytes[self.log.from..self.log.to])
     }
-    let from = body.from;
-    let to = body.to;
-    take_block(out, register, table, raised, &bytes[from..to], body)
-}
 
-// An entry, or a block of samples: the first word says what it is.
-fn take_next(
-    out: &mut Out,
-    register: &mut [u32],
-    table: &[u8],
-    raised: &mut Raised,
-    bytes: &mut [u8],
-    file: &mut File,
-    log: Log,
-) -> Log
-    requires { Held log (length bytes.old) × (log.entry < 18446744073709486080) }
-    ensures { Held result (length bytes.new) × Onward log result }
-{
-    let head = have_bytes(bytes, file, log, 4);
-    if head.state != GOING {
-        return at_end(head);
-    }
-    let from = head.from;
-    let first = read4(&bytes[from..], 0);
-    if first == 0 {
-        return take_samples(out, register, table, raised, bytes, file, head);
-    }
-    if first == 1 {
-        return outcome(head, register::start(table, register));
-    }
-    if first == 2 {
-        return outcome(head, register::stop(table, register));
-    }
-    stopped(head, OF_NO_KIND, first)
-}
-
-// Entries, until the log stops.
-fn take_entries(
-    out: &mut Out,
-    register: &mut [u32],
-    table: &[u8],
-    raised: &mut Raised,
-    bytes: &mut [u8],
-    file: &mut File,
-    log: Log,
-) -> Log
-    requires { Held log (length bytes.old) }
-{
-    let mut next = log;
-    while next.entry < LAST {
-        next = take_next(out, register, table, raised, bytes, file, next);
-        if next.state != GOING {
-            return next;
+    // An entry, or a block of samples: the first word says what it is.
+    fn take_next(&mut self, bytes: &mut [u8], file: &mut File) -> Result<(), Stop>
+        requires { Held self.old.log (length bytes.old) × (self.old.log.entry < 18446744073709486080) }
+        ensures held { Held self.new.log (length bytes.new) }
+        ensures onward { OnOk result (Onward self.old.log self.new.log) }
+    {
+        if let Err(stop) = self.log.have_bytes(bytes, file, 4) {
+            return Err(self.log.at_end(stop));
+        }
+        match read4(&bytes[self.log.from..], 0) {
+            0 => self.take_samples(bytes, file),
+            1 => self
+                .log
+                .outcome(number(&register::start(self.table, self.register))),
+            2 => self
+                .log
+                .outcome(number(&register::stop(self.table, self.register))),
+            first => Err(Stop::OfNoKind(first)),
         }
     }
-    next
+
+    // Entries, until the log stops.
+    fn take_entries(&mut self, bytes: &mut [u8], file: &mut File) -> Result<(), Stop>
+        requires { Held self.old.log (length bytes.old) }
+    {
+        while self.log.entry < LAST {
+            self.take_next(bytes, file)?;
+        }
+        Ok(())
+    }
 }
 
-// The log of a file, with a register of the table; there is a kind for each place.
+// The log of a file, with a register of the table; there is a kind for each place. Answers the entry
+// that it was taken to, and why no further.
 pub fn take_all(
     out: &mut Out,
     register: &mut [u32],
@@ -176,15 +132,26 @@ pub fn take_all(
     kinds: &[u8],
     file: &mut File,
     points: usize,
-) -> Log
+) -> (u64, Option<Stop>)
     requires { (points ≤ 16) × (length kinds.now ≤ 12416) }
 {
-    let mut raised = Raised {
-        illegals: [0; 24832],
+    let mut replay = Replay {
+        out,
+        table,
+        register,
+        illegals: Illegals {
+            places: [0; 12416],
+            shown: [0; 12416],
+            count: 0,
+        },
         reports: [0; 12416],
+        log: Log::new(points, 0),
     };
-    let n = put_of_kind(&mut raised.illegals, kinds, kinds.len(), 0, 2);
+    let illegals = &mut replay.illegals;
+    let n = put_illegals(&mut illegals.places, kinds, 0);
+    illegals.count = n;
+    replay.log.illegals = n;
     let mut bytes = [0u8; 65536];
-    let log = new_log(points, n);
-    take_entries(out, register, table, &mut raised, &mut bytes, file, log)
+    let stop = replay.take_entries(&mut bytes, file).err();
+    (replay.log.entry, stop)
 }

@@ -2,119 +2,113 @@
 ghost use Rattle.std.specs.Prelude.{◌≡◌, true};
 ghost use Rattle.model.specs.Format.{accepted};
 
+use crate::Subject;
+use crate::kinds::CounterKind;
 use coverage::items::put_leasts;
 use sampling::{put_items, put_kinds, put_totals};
-use streams::out::{Out, say};
-use streams::text::{say_head, say_kind, say_number, say_numbered};
+use std::fmt;
+use std::fmt::Write;
+use streams::out::Out;
 use values::fields::word;
 use words::bytes::byte;
 
 // The count of a place.
 pub fn count_of(register: &[u32], place: usize) -> u32 {
-    if place < 65536 {
-        return word(register, 2 + place);
-    }
-    0
+    register.get(place.saturating_add(2)).copied().unwrap_or(0)
 }
 
-// Whose item it is: the points, then the crosses.
-pub fn say_owner(out: &mut Out, item: usize, points: usize) {
-    if item < points {
-        say_numbered(out, b"point ", item as u64);
-    } else {
-        say_numbered(out, b"cross ", (item - points) as u64);
-    }
-}
-
-// A place of a register: its count, and what the table says of it.
+// Whose item it is: the points' come first, then the crosses'.
 #[derive(Clone, Copy)]
-struct Counter {
-    place: usize,
-    count: u32,
-    item: usize,
-    kind: u8,
-    counted: bool,
-    at_least: u32,
+pub enum Owner {
+    Point(usize),
+    Cross(usize),
 }
 
-fn counter_at(
-    register: &[u32],
-    kinds: &[u8],
-    items: &[u8],
-    totals: &[u8],
-    leasts: &[u32],
-    place: usize,
-) -> Counter {
-    let item = byte(items, place) as usize;
-    Counter {
-        place: place,
-        count: count_of(register, place),
-        item: item,
-        kind: byte(kinds, place),
-        counted: byte(totals, place) == 1,
-        at_least: word(leasts, item),
+impl Owner {
+    pub fn of(item: usize, points: usize) -> Owner {
+        if item < points {
+            Owner::Point(item)
+        } else {
+            Owner::Cross(item - points)
+        }
     }
 }
 
-// Whether the counter is in its item's total, and has its at-least.
-fn say_standing(out: &mut Out, c: Counter) {
-    if !c.counted {
-        say(out, b"not in the total");
-    } else if c.at_least <= c.count {
-        say(out, b"covered");
-    } else {
-        say(out, b"uncovered");
+impl fmt::Display for Owner {
+    fn fmt<W: fmt::Write>(&self, f: &mut fmt::Formatter<W>) -> fmt::Result {
+        match self {
+            Owner::Point(point) => write!(f, "point {point}"),
+            Owner::Cross(cross) => write!(f, "cross {cross}"),
+        }
     }
 }
 
-// The counter's owner, what it is, and how it stands.
-fn say_what(out: &mut Out, c: Counter, points: usize) {
-    say_owner(out, c.item, points);
-    say(out, b", ");
-    say_kind(out, c.kind);
-    say(out, b", ");
-    say_standing(out, c);
+// Whether a counter is in its item's total, and has its at-least.
+#[derive(Clone, Copy)]
+enum Standing {
+    Covered,
+    Uncovered,
+    NotInTotal,
 }
 
-fn say_counter(out: &mut Out, c: Counter, points: usize) {
-    say_head(out, b"place ", c.place as u64);
-    say_number(out, c.count as u64);
-    say(out, b" (");
-    say_what(out, c, points);
-    say(out, b")\n");
-}
-
-fn say_places(
-    out: &mut Out,
-    register: &[u32],
-    kinds: &[u8],
-    items: &[u8],
-    totals: &[u8],
-    leasts: &[u32],
-    points: usize,
-) {
-    let mut place = 0;
-    while place < kinds.len() {
-        say_counter(
-            out,
-            counter_at(register, kinds, items, totals, leasts, place),
-            points,
-        );
-        place += 1;
+impl fmt::Display for Standing {
+    fn fmt<W: fmt::Write>(&self, f: &mut fmt::Formatter<W>) -> fmt::Result {
+        f.write_str(match self {
+            Standing::Covered => "covered",
+            Standing::Uncovered => "uncovered",
+            Standing::NotInTotal => "not in the total",
+        })
     }
+}
+
+// What the table says of the places: the kind of each, its item, and whether it is in that item's
+// total; and each item's at-least.
+#[derive(Drop)]
+struct Places {
+    kinds: [u8; 12416],
+    items: [u8; 12416],
+    totals: [u8; 12416],
+    leasts: [u32; 24],
+}
+
+impl Places {
+    fn standing(&self, place: usize, item: usize, count: u32) -> Standing {
+        if byte(&self.totals, place) != 1 {
+            Standing::NotInTotal
+        } else if word(&self.leasts, item) <= count {
+            Standing::Covered
+        } else {
+            Standing::Uncovered
+        }
+    }
+}
+
+// A place's count, its owner, what it is, and how it stands.
+fn say_counter(out: &mut Out, s: &Subject, places: &Places, place: usize, kind: u8) -> fmt::Result {
+    let item = byte(&places.items, place) as usize;
+    let count = count_of(s.register, place);
+    let owner = Owner::of(item, s.points);
+    let kind = CounterKind::from(kind);
+    let standing = places.standing(place, item, count);
+    writeln!(out, "place {place}: {count} ({owner}, {kind}, {standing})")
 }
 
 // The counters, one line each.
-pub fn say_counters(out: &mut Out, table: &[u8], register: &[u32], kinds: &[u8], points: usize)
-    requires { accepted table.now ≡ true }
+pub fn say_counters(out: &mut Out, s: &Subject) -> fmt::Result
+    requires { accepted s.now.table.now ≡ true }
 {
-    let mut all = [0u8; 12416];
-    let x = put_kinds(&mut all, table);
-    let mut items = [0u8; 12416];
-    put_items(&mut items, table, x);
-    let mut totals = [0u8; 12416];
-    put_totals(&mut totals, table, &all, x);
-    let mut leasts = [0u32; 24];
-    put_leasts(&mut leasts, table);
-    say_places(out, register, kinds, &items, &totals, &leasts, points);
+    let mut places = Places {
+        kinds: [0; 12416],
+        items: [0; 12416],
+        totals: [0; 12416],
+        leasts: [0; 24],
+    };
+    let x = put_kinds(&mut places.kinds, s.table);
+    put_items(&mut places.items, s.table, x);
+    put_totals(&mut places.totals, s.table, &places.kinds, x);
+    put_leasts(&mut places.leasts, s.table);
+    for (place, kind) in s.kinds.iter().enumerate() {
+        say_counter(out, s, &places, place, *kind)?;
+    }
+    Ok(())
 }

@@ -1,116 +1,103 @@
 // The lines of illegal places: as they are raised, and their totals.
-ghost use Rattle.std.specs.Prelude.{◌≡◌, ◌<◌, ◌≤◌, length};
+ghost use Rattle.std.specs.Prelude.{◌<◌, ◌≤◌};
 
+use crate::Subject;
 use crate::counters::count_of;
-use arrays::element;
-use streams::out::{Out, say};
-use streams::text::say_numbered;
-use turns::Taken;
+use crate::kinds::CounterKind;
+use std::fmt;
+use std::fmt::Write;
+use streams::out::Out;
 use values::fields::word;
-use words::bytes::byte;
 
 // How often an illegal place's line is shown.
-const SHOWN: u32 = 10;
+const SHOWN: u16 = 10;
 
 // The illegal places that there can be.
 const ILLEGALS: usize = 12416;
 
-// Whether the line of the i-th illegal place is to be shown; if so, it counts as shown.
-fn shows(illegals: &mut [u16], i: usize) -> bool
-    requires { (length illegals.old ≡ 24832) × (i < 12416) }
-{
-    let at = ILLEGALS + i;
-    let shown = element(illegals, at);
-    if shown as u32 >= SHOWN {
-        return false;
-    }
-    illegals[at] = shown + 1;
-    true
+// The places of the first count illegal ones, and how often the line of each was shown.
+#[derive(Drop)]
+pub struct Illegals {
+    pub places: [u16; ILLEGALS],
+    pub shown: [u16; ILLEGALS],
+    pub count: usize,
+    ghost few: { count ≤ 12416 },
 }
 
-// The line of the i-th illegal place, if its word of a report says that it was raised.
-fn say_raised(out: &mut Out, illegals: &mut [u16], i: usize, raised: u32, sample: u64, entry: u64)
-    requires { (length illegals.old ≡ 24832) × (i < 12416) }
-{
-    if raised == 0 {
-        return;
-    }
-    if !shows(illegals, i) {
-        return;
-    }
-    say_numbered(out, b"illegal place ", element(illegals, i) as u64);
-    say_numbered(out, b" raised at sample ", sample);
-    say_numbered(out, b" (entry ", entry);
-    say(out, b")\n");
+// A sample: its number among the samples, and its entry's.
+#[derive(Clone, Copy)]
+pub struct Sample {
+    pub number: u64,
+    pub entry: u64,
 }
 
-// The report of a sample, which begins at a word of the reports: it has a word for each of n illegal places.
-fn say_sample(
-    out: &mut Out,
-    illegals: &mut [u16],
-    reports: &[u32],
-    n: usize,
-    at: usize,
-    sample: u64,
-    entry: u64,
-)
-    requires { (length illegals.old ≡ 24832) × (n ≤ 12416) × (at < 4294967296) }
-{
-    let mut i = 0;
-    while i < n {
-        say_raised(out, illegals, i, word(reports, at + i), sample, entry);
-        i += 1;
+impl Illegals {
+    // Whether the line of the i-th illegal place is to be shown; if so, it counts as shown.
+    fn shows(&mut self, i: usize) -> bool
+        requires { i < 12416 }
+    {
+        if self.shown[i] >= SHOWN {
+            return false;
+        }
+        self.shown[i] += 1;
+        true
+    }
+
+    // The report of a sample, which begins at a word of the reports: it has a word for each illegal place.
+    fn say_sample(
+        &mut self,
+        out: &mut Out,
+        reports: &[u32],
+        at: usize,
+        sample: Sample,
+    ) -> fmt::Result
+        requires { at < 4294967296 }
+    {
+        let Sample { number, entry } = sample;
+        for i in 0..self.count {
+            if word(reports, at + i) != 0 && self.shows(i) {
+                let place = self.places[i];
+                writeln!(
+                    out,
+                    "illegal place {place} raised at sample {number} (entry {entry})"
+                )?;
+            }
+        }
+        Ok(())
+    }
+
+    // The reports of the samples of a block that were taken, of which the first is given.
+    pub fn say_reports(
+        &mut self,
+        out: &mut Out,
+        reports: &[u32],
+        taken: usize,
+        first: Sample,
+    ) -> fmt::Result
+        requires { (taken ≤ 9216) × (first.number ≤ 4294967296) × (first.entry < 18446744073709486080) }
+    {
+        let mut at = 0;
+        for i in 0..taken {
+            let k = i as u64;
+            let sample = Sample {
+                number: first.number + k,
+                entry: first.entry + k,
+            };
+            self.say_sample(out, reports, at, sample)?;
+            at += self.count;
+        }
+        Ok(())
     }
 }
 
-// The reports of the samples of a block that were taken; sample and entry are the first one's.
-pub fn say_reports(
-    out: &mut Out,
-    illegals: &mut [u16],
-    reports: &[u32],
-    n: usize,
-    t: Taken,
-    sample: u64,
-    entry: u64,
-)
-    requires { (length illegals.old ≡ 24832) × (n ≤ 12416) × (t.taken ≤ 9216) × (sample ≤ 4294967296) × (entry < 18446744073709486080) }
-{
-    let taken = t.taken;
-    let mut at = 0;
-    let mut i = 0;
-    while i < taken {
-        let k = i as u64;
-        say_sample(out, illegals, reports, n, at, sample + k, entry + k);
-        at += n;
-        i += 1;
+// How often each illegal place was raised, of those that were.
+pub fn say_totals(out: &mut Out, s: &Subject) -> fmt::Result {
+    for (place, kind) in s.kinds.iter().enumerate() {
+        let count = count_of(s.register, place);
+        if count != 0 && CounterKind::from(*kind).is_illegal() {
+            let shown = count.min(u32::from(SHOWN));
+            writeln!(out, "illegal place {place} total: {count} ({shown} shown)")?;
+        }
     }
-}
-
-fn is_illegal(kind: u8) -> bool {
-    (kind == 2) | (kind == 4) | (kind == 6)
-}
-
-// The lines of an illegal place that were shown.
-fn shown_of(count: u32) -> u32 {
-    if count < SHOWN { count } else { SHOWN }
-}
-
-// How often an illegal place was raised, if it was.
-fn say_total(out: &mut Out, register: &[u32], kind: u8, place: usize) {
-    let count = count_of(register, place);
-    if (count == 0) | !is_illegal(kind) {
-        return;
-    }
-    say_numbered(out, b"illegal place ", place as u64);
-    say_numbered(out, b" total: ", count as u64);
-    say_numbered(out, b" (", shown_of(count) as u64);
-    say(out, b" shown)\n");
-}
-
-pub fn say_totals(out: &mut Out, register: &[u32], kinds: &[u8]) {
-    let mut place = 0;
-    while place < kinds.len() {
-        say_total(out, register, byte(kinds, place), place);
-        place += 1;
-    }
+    Ok(())
 }

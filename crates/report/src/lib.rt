@@ -5,6 +5,7 @@ mod counters;
 pub mod ending;
 pub mod illegals;
 mod items;
+mod kinds;
 
 ghost use Rattle.std.specs.Prelude.{◌≡◌, true};
 ghost use Rattle.model.specs.Format.{accepted};
@@ -13,29 +14,38 @@ use crate::counters::say_counters;
 use crate::illegals::say_totals;
 use crate::items::{say_group, say_items, say_unknowns};
 use layout::layout_of;
-use streams::out::{Out, say};
-use streams::text::say_numbered;
+use std::fmt;
+use std::fmt::Write;
+use streams::out::Out;
 use values::fields::word;
 
-fn say_state(out: &mut Out, register: &[u32]) {
-    say_numbered(out, b"samples ", word(register, 1) as u64);
+// What a report is on: a table, a register of it, the kind of each place, and how many points there are.
+#[derive(Clone, Copy)]
+pub struct Subject<'a> {
+    pub table: &'a [u8],
+    pub register: &'a [u32],
+    pub kinds: &'a [u8],
+    pub points: usize,
+}
+
+fn say_state(out: &mut Out, register: &[u32]) -> fmt::Result {
+    let samples = word(register, 1);
     if word(register, 0) == 1 {
-        say(out, b", running\n");
+        writeln!(out, "samples {samples}, running")
     } else {
-        say(out, b", stopped\n");
+        writeln!(out, "samples {samples}, stopped")
     }
 }
 
 // All lines but the last.
-pub fn say_report(out: &mut Out, table: &[u8], register: &[u32], kinds: &[u8], points: usize)
-    requires { accepted table.now ≡ true }
+pub fn say_report(out: &mut Out, s: &Subject) -> fmt::Result
+    requires { accepted s.now.table.now ≡ true }
 {
-    let l = layout_of(table);
-    let items = l.point_count + l.cross_count;
-    say_totals(out, register, kinds);
-    say_state(out, register);
-    say_counters(out, table, register, kinds, points);
-    say_unknowns(out, table, register, points);
-    say_items(out, table, register, items, points);
-    say_group(out, table, register);
+    let l = layout_of(s.table);
+    say_totals(out, s)?;
+    say_state(out, s.register)?;
+    say_counters(out, s)?;
+    say_unknowns(out, s)?;
+    say_items(out, s, l.point_count + l.cross_count)?;
+    say_group(out, s)
 }

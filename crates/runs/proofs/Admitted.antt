@@ -10,28 +10,19 @@ use lib.Bits.{bit_or, or_step, or_zero_l, or_zero_r, or_self, or_block}
 use lib.ListN.{length, get_or, length-append}
 use lib.Seq.{get_or-append-add}
 use lib.Pow.{pow_pos}
-use borrow.Author.Tests.{eq-eqb, ne_eqb}
 use Rattle.model.specs.Lists.{sum_of, concat_of, or_all, as_bit}
 use Rattle.model.specs.Table.{Range, span, pattern, Step}
 use Rattle.model.specs.Values.{in_range, in_ranges}
-use Rattle.model.specs.Sampling.{known}
+use Rattle.model.specs.Sampling.{Reading, known, is_in}
 use Rattle.model.specs.Raw.{rows}
 use Rattle.model.proofs.AccessTransitions.{ranges_in}
 use Rattle.model.proofs.RunBits.{or_assoc}
 use Rattle.model.proofs.RawLaws.{rows-add, rows_turn, rows_start, rows_end}
 use Rattle.sequences.specs.Shapes.{admitted_bits}
-use Rattle.runs.specs.Runs.{reading_from}
 use Rattle.runs.specs.Rows.{range_words, range_of, step_ranges}
-use Rattle.runs.proofs.Codes.{other_in}
 use Rattle.runs.proofs.RowLaws.{length-range, length-ranges, length-step_ranges}
 
 -- ---- one range
-
-pub holds-span : (kind a b v : ℕ) → kind ≡ 0 → in_range (span a b) v ≡ in_range (range_of kind a b) v
-holds-span kind a b v e = ap (λ (c : Bool). in_range (cond c (span a b) (pattern a b)) v) (sym (eq-eqb kind 0 e))
-
-pub holds-pattern : (kind a b v : ℕ) → (kind ≡ 0 → ⊥) → in_range (pattern a b) v ≡ in_range (range_of kind a b) v
-holds-pattern kind a b v e = ap (λ (c : Bool). in_range (cond c (span a b) (pattern a b)) v) (sym (ne_eqb kind 0 e))
 
 -- the bit of the range at a place of w, if it holds v
 abbrev pub bit_at : List ℕ → ℕ → ℕ → ℕ
@@ -140,7 +131,7 @@ bits_admitted w v out n ss en e ew =
     e ∙ ap or_all (rows_start (bit_at w v) 4 0 n) ∙ ap (λ (m : ℕ). or_all (rows (bit_at w v) 4 0 m)) many ∙ steps_bits v 0 ss w [] 0 refl ew ∙ omega arith
 
 -- only a known reading lies in a step
-pub none_admitted : (code : ℕ) (ss : List Step) → 8589934592 ≤ code → 0 ≡ admitted_bits ss (reading_from code)
+pub none_admitted : (r : Reading) (ss : List Step) → ((f : ℕ → Bool) → is_in f r ≡ false) → 0 ≡ admitted_bits ss r
 unfolding admitted_bits
-none_admitted code [] h = refl
-none_admitted code (s ∷ ss) h = ap₂ (λ (b : Bool) (x : ℕ). as_bit b + 2 * x) (other_in (in_ranges s.ranges) code h) (none_admitted code ss h)
+none_admitted r [] h = refl
+none_admitted r (s ∷ ss) h = ap₂ (λ (b : Bool) (x : ℕ). as_bit b + 2 * x) (sym (h (in_ranges s.ranges))) (none_admitted r ss h)

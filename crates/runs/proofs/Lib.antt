@@ -1,4 +1,3 @@
-pub mod Codes
 pub mod Written
 pub mod Exact
 pub mod Ready

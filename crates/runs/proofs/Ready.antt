@@ -26,6 +26,7 @@ use Rattle.model.proofs.RawExact.{raw-exact}
 use Rattle.model.proofs.Lists.{all-numbered}
 use Rattle.arrays.specs.Put.{put}
 use Rattle.arrays.specs.Flat.{Readings}
+use Rattle.arrays.specs.declared.reading.Reading as code
 use Rattle.arrays.proofs.PutLaws.{part-put}
 use Rattle.layout.specs.Places.{layout_of}
 use Rattle.layout.specs.declared.Layout.{Layout as Places}
@@ -92,8 +93,8 @@ module _ (s : List ℕ) (e : accepted s ≡ true) where
 
   -- ---- what was taken
 
-  -- the runs by the codes are the model's next runs
-  pub runs_taken : (w codes : List ℕ) (at : ℕ) (w₀ w₁ : List ℕ) → at + run_total (table_of s) ≤ length w₀ → Readings (table_of s) w codes
+  -- the runs by the readings are the model's next runs
+  pub runs_taken : (w : List ℕ) (codes : List code.Reading) (at : ℕ) (w₀ w₁ : List ℕ) → at + run_total (table_of s) ≤ length w₀ → Readings (table_of s) w codes
       → w₁ ≡ put at (all_runs codes (table_of s).transition_bins (drop at w₀)) w₀
       → w₁ ≡ put at (next_runs (table_of s) w (sequences (table_of s)) (take (run_total (table_of s)) (drop at w₀))) w₀
   unfolding sequences
@@ -101,11 +102,11 @@ module _ (s : List ℕ) (e : accepted s ≡ true) where
       let room : run_total (table_of s) ≤ length (drop at w₀) = simp length-drop (omega arith) in
       e₁
       ∙ ap (λ (xs : List ℕ). put at xs w₀)
-      (runs_exact (table_of s) w codes (table_of s).transition_bins (drop at w₀) (λ i k. code_read (table_of s) ok w codes r (transition_bin_at (table_of s) i).point (point_in i k))
+      (runs_exact (table_of s) w codes (table_of s).transition_bins (drop at w₀) (λ i k. code_read (table_of s) w codes r (transition_bin_at (table_of s) i).point (point_in i k))
       ∙ runs_own (table_of s) w (sequences (table_of s)) (drop at w₀) room)
 
   -- and the lengths are those of the register afterwards
-  pub lengths_taken : (codes : List ℕ) (at : ℕ) (w₀ w₁ lens₀ lens₁ : List ℕ) → at + run_total (table_of s) ≤ length w₀
+  pub lengths_taken : (codes : List code.Reading) (at : ℕ) (w₀ w₁ lens₀ lens₁ : List ℕ) → at + run_total (table_of s) ≤ length w₀
       → w₁ ≡ put at (all_runs codes (table_of s).transition_bins (drop at w₀)) w₀
       → lens₁ ≡ put 0 (all_lengths (table_of s).transition_bins (all_runs codes (table_of s).transition_bins (drop at w₀))) lens₀
       → lens₁ ≡ put 0 (all_lengths (table_of s).transition_bins (take (run_total (table_of s)) (drop at w₁))) lens₀

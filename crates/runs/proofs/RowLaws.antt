@@ -40,14 +40,6 @@ put_three at a b c l h =
     ∙ ap (put (at + 2) (c ∷ [])) (put_two at a b l (omega arith))
     ∙ put_next at 2 (a ∷ b ∷ []) (c ∷ []) l refl (omega arith)
 
-pub put_four : (at a b c d : ℕ) (l : List ℕ) → at + 4 ≤ length l → set (set (set (set l at a) (at + 1) b) (at + 2) c) (at + 3) d ≡ put at (a ∷ b ∷ c ∷ d ∷ []) l
-put_four at a b c d l h =
-    let l₃ = set (set (set l at a) (at + 1) b) (at + 2) c in
-    sym (put-nil (at + 3 + 1) (set l₃ (at + 3) d))
-    ∙ put-cons (at + 3) d [] l₃ (simp length-set (omega arith))
-    ∙ ap (put (at + 3) (d ∷ [])) (put_three at a b c l (omega arith))
-    ∙ put_next at 3 (a ∷ b ∷ c ∷ []) (d ∷ []) l refl (omega arith)
-
 -- a write that ends where an earlier one begins
 pub put_under : (at n : ℕ) (xs ys l : List ℕ) → length xs ≡ n → at + n + length ys ≤ length l → put at xs (put (at + n) ys l) ≡ put at (xs ++ ys) l
 unfolding put

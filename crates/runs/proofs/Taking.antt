@@ -19,9 +19,12 @@ use Rattle.model.proofs.Lists.{head_tail, length_part}
 use Rattle.model.proofs.RunBits.{or_assoc}
 use Rattle.model.proofs.AccessTransitions.{ranges_in}
 use Rattle.arrays.specs.Put.{put}
+use Rattle.arrays.specs.declared.reading.Reading as code
+use Rattle.arrays.specs.declared.reading.Reading.TheVariants.{Skipped}
 use Rattle.arrays.proofs.PutLaws.{put-nil, put-cons, drop-put, length-put}
 use Rattle.sequences.proofs.Sequences.{length-next_run, bin_lengths-front}
-use Rattle.runs.specs.Runs.{reading_from, bin_runs, next_bin, bin_words, all_runs, sequence_fits}
+use Rattle.arrays.specs.Flat.{reading_from}
+use Rattle.runs.specs.Runs.{bin_runs, next_bin, bin_words, all_runs, sequence_fits}
 use Rattle.runs.specs.Rows.{sequence_row, bin_row, Stands}
 use Rattle.runs.proofs.RowLaws.{length-row}
 use Rattle.runs.proofs.Standing.{stands_first, stands_next, RowAt, row_at}
@@ -146,29 +149,29 @@ module _ (sss : List (List Step)) (x : Reading) (plan : List ℕ) (row₀ words�
           sym (ap (λ (k : List (List Step)). bit_or out (bin_lengths k (bin_runs x k (drop words l)))) e ∙ (unfold bin_lengths in (or_zero_r out))) ∙ going.lengths,
         )
 
--- the whole bin, whose point p and code were read from its row
-pub bin-taken : (b : TransitionBin) (codes : List ℕ) (p row row₁ words₀ words₁ out : ℕ) (l₀ l : List ℕ) → p ≡ b.point → row + 2 + length (concat_of sequence_row b.sequences) ≡ row + length (bin_row b)
+-- the whole bin, whose point p and reading were read from its row
+pub bin-taken : (b : TransitionBin) (codes : List code.Reading) (p row row₁ words₀ words₁ out : ℕ) (l₀ l : List ℕ) → p ≡ b.point → row + 2 + length (concat_of sequence_row b.sequences) ≡ row + length (bin_row b)
     → (row₁ ≡ row + 2 + length (concat_of sequence_row b.sequences)) × (words₁ ≡ words₀ + sum_of run_length b.sequences)
-    × (l ≡ put words₀ (bin_runs (reading_from (get_or codes p 0)) b.sequences (drop words₀ l₀)) l₀) × (out ≡ bin_lengths b.sequences (bin_runs (reading_from (get_or codes p 0)) b.sequences (drop words₀ l₀)))
+    × (l ≡ put words₀ (bin_runs (reading_from (get_or codes p Skipped)) b.sequences (drop words₀ l₀)) l₀) × (out ≡ bin_lengths b.sequences (bin_runs (reading_from (get_or codes p Skipped)) b.sequences (drop words₀ l₀)))
     → ((row₁ ≡ row + length (bin_row b)) × (words₁ ≡ words₀ + sum_of run_length b.sequences))
     × ((l ≡ put words₀ (next_bin codes b (drop words₀ l₀)) l₀) × (out ≡ bin_lengths b.sequences (next_bin codes b (drop words₀ l₀))))
 bin-taken b codes p row row₁ words₀ words₁ out l₀ l ep er (e₀, e₁, e₂, e₃) =
-    let same : bin_runs (reading_from (get_or codes p 0)) b.sequences (drop words₀ l₀) ≡ next_bin codes b (drop words₀ l₀) = ap (λ (q : ℕ). bin_runs (reading_from (get_or codes q 0)) b.sequences (drop words₀ l₀)) ep in
+    let same : bin_runs (reading_from (get_or codes p Skipped)) b.sequences (drop words₀ l₀) ≡ next_bin codes b (drop words₀ l₀) = ap (λ (q : ℕ). bin_runs (reading_from (get_or codes q Skipped)) b.sequences (drop words₀ l₀)) ep in
     ((e₀ ∙ er, e₁), (e₂ ∙ ap (λ (xs : List ℕ). put words₀ xs l₀) same, e₃ ∙ ap (bin_lengths b.sequences) same))
 
 -- ---- the bins
 
-pub length-all_runs : (codes : List ℕ) (bs : List TransitionBin) (runs : List ℕ) → sum_of bin_words bs ≤ length runs → length (all_runs codes bs runs) ≡ sum_of bin_words bs
+pub length-all_runs : (codes : List code.Reading) (bs : List TransitionBin) (runs : List ℕ) → sum_of bin_words bs ≤ length runs → length (all_runs codes bs runs) ≡ sum_of bin_words bs
 unfolding all_runs sum_of
 length-all_runs codes [] runs h = refl
 length-all_runs codes (b ∷ bs) runs h =
     let n = bin_words b in
     let k : sum_of bin_words bs ≤ length (drop n runs) = simp length-drop (omega arith) in
     length-append (next_bin codes b runs) (all_runs codes bs (drop n runs))
-    ∙ ap₂ ◌+◌ (length-bin_runs (reading_from (get_or codes b.point 0)) b.sequences runs (omega arith)) (length-all_runs codes bs (drop n runs) k)
+    ∙ ap₂ ◌+◌ (length-bin_runs (reading_from (get_or codes b.point Skipped)) b.sequences runs (omega arith)) (length-all_runs codes bs (drop n runs) k)
 
 -- i of the bins are done. The row of the next stands at `row`, its run words at `words` of the register l, and lens has the lengths so far.
-pub record Binning (bs : List TransitionBin) (codes plan : List ℕ) (words₀ : ℕ) (l₀ lens₀ : List ℕ) (i row words : ℕ) (l lens : List ℕ) : Type 0 where
+pub record Binning (bs : List TransitionBin) (codes : List code.Reading) (plan : List ℕ) (words₀ : ℕ) (l₀ lens₀ : List ℕ) (i row words : ℕ) (l lens : List ℕ) : Type 0 where
   pub few : i ≤ length bs
   pub kept : length l ≡ length l₀
   pub kept_lens : length lens ≡ length lens₀
@@ -177,7 +180,7 @@ pub record Binning (bs : List TransitionBin) (codes plan : List ℕ) (words₀ :
   pub runs : put words (all_runs codes (drop i bs) (drop words l)) l ≡ put words₀ (all_runs codes bs (drop words₀ l₀)) l₀
   pub lengths : put i (all_lengths (drop i bs) (all_runs codes (drop i bs) (drop words l))) lens ≡ put 0 (all_lengths bs (all_runs codes bs (drop words₀ l₀))) lens₀
 
-word-turn : (b : TransitionBin) (bs : List TransitionBin) (codes : List ℕ) (k y : ℕ) (runs runs' lens : List ℕ) → bin_words b ≤ length runs → runs' ≡ drop (bin_words b) runs
+word-turn : (b : TransitionBin) (bs : List TransitionBin) (codes : List code.Reading) (k y : ℕ) (runs runs' lens : List ℕ) → bin_words b ≤ length runs → runs' ≡ drop (bin_words b) runs
     → y ≡ bin_lengths b.sequences (next_bin codes b runs) → k < length lens
     → put (k + 1) (all_lengths bs (all_runs codes bs runs')) (set lens k y) ≡ put k (all_lengths (b ∷ bs) (all_runs codes (b ∷ bs) runs)) lens
 unfolding all_runs all_lengths
@@ -185,11 +188,11 @@ word-turn b bs codes k y runs runs' lens h e ey hk =
     let n = bin_words b in
     let xs = next_bin codes b runs in
     let ys = all_runs codes bs (drop n runs) in
-    let long : length xs ≡ n = length-bin_runs (reading_from (get_or codes b.point 0)) b.sequences runs h in
+    let long : length xs ≡ n = length-bin_runs (reading_from (get_or codes b.point Skipped)) b.sequences runs h in
     put-cons k y (all_lengths bs (all_runs codes bs runs')) lens hk
     ∙ ap₂ (λ (m : ℕ) (z : List ℕ). put k (m ∷ all_lengths bs z) lens) (ey ∙ sym (bin_lengths-front b.sequences xs ys (omega arith))) (ap (all_runs codes bs) e ∙ sym (drop_at xs ys n long))
 
-module _ (bs : List TransitionBin) (codes plan : List ℕ) (words₀ : ℕ) (l₀ lens₀ : List ℕ) where
+module _ (bs : List TransitionBin) (codes : List code.Reading) (plan : List ℕ) (words₀ : ℕ) (l₀ lens₀ : List ℕ) where
   pub binning_start : (row₀ : ℕ) → Stands plan row₀ (concat_of bin_row bs) → Binning bs codes plan words₀ l₀ lens₀ 0 row₀ words₀ l₀ lens₀
   binning_start row₀ h = record {
     few = omega arith;
@@ -235,7 +238,7 @@ module _ (bs : List TransitionBin) (codes plan : List ℕ) (words₀ : ℕ) (l�
           let n = bin_words bin in
           let xs = next_bin codes bin (drop words l) in
           let left : n ≤ length (drop words l) = simp length-drop (omega (arith, bin-space)) in
-          let long : length xs ≡ n = length-bin_runs (reading_from (get_or codes bin.point 0)) bin.sequences (drop words l) left in
+          let long : length xs ≡ n = length-bin_runs (reading_from (get_or codes bin.point Skipped)) bin.sequences (drop words l) left in
           let gone : drop words' l' ≡ drop n (drop words l) = past-drop words n words' xs l l' long bin-space ew el in
           record {
             few = omega arith;

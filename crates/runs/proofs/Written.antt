@@ -11,9 +11,12 @@ use Rattle.model.specs.Table.{Step, TransitionBin}
 use Rattle.model.specs.Sampling.{Reading, run_length, next_run}
 use Rattle.model.proofs.Lists.{length_part}
 use Rattle.arrays.specs.Put.{put}
+use Rattle.arrays.specs.declared.reading.Reading as code
+use Rattle.arrays.specs.declared.reading.Reading.TheVariants.{Skipped}
 use Rattle.arrays.proofs.PutLaws.{put-nil, put_next, drop-put}
 use Rattle.sequences.proofs.Sequences.{length-next_run}
-use Rattle.runs.specs.Runs.{reading_from, bin_runs, next_bin, bin_words, all_runs}
+use Rattle.arrays.specs.Flat.{reading_from}
+use Rattle.runs.specs.Runs.{bin_runs, next_bin, bin_words, all_runs}
 
 -- ---- a piece is written, and those that are left follow it
 
@@ -45,14 +48,14 @@ length-bin_runs x (ss ∷ sss) runs h =
     length-append (next_run ss (take n runs) x) (bin_runs x sss (drop n runs))
     ∙ ap₂ ◌+◌ (length-next_run ss (take n runs) x (length-take-le n runs (omega arith))) (length-bin_runs x sss (drop n runs) k)
 
-pub bin-turn : (codes : List ℕ) (b : TransitionBin) (bs : List TransitionBin) (a e : ℕ) (w w' : List ℕ) → e ≡ a + bin_words b → a + bin_words b ≤ length w
+pub bin-turn : (codes : List code.Reading) (b : TransitionBin) (bs : List TransitionBin) (a e : ℕ) (w w' : List ℕ) → e ≡ a + bin_words b → a + bin_words b ≤ length w
     → w' ≡ put a (next_bin codes b (drop a w)) w → put e (all_runs codes bs (drop e w')) w' ≡ put a (all_runs codes (b ∷ bs) (drop a w)) w
 unfolding all_runs
 bin-turn codes b bs a e w w' ee h ew =
     let k : bin_words b ≤ length (drop a w) = simp length-drop (omega arith) in
     ap (λ (m : ℕ). put m (all_runs codes bs (drop m w')) w') ee
-    ∙ piece-turn (all_runs codes bs) a (bin_words b) (next_bin codes b (drop a w)) w w' (length-bin_runs (reading_from (get_or codes b.point 0)) b.sequences (drop a w) k) h ew
+    ∙ piece-turn (all_runs codes bs) a (bin_words b) (next_bin codes b (drop a w)) w w' (length-bin_runs (reading_from (get_or codes b.point Skipped)) b.sequences (drop a w) k) h ew
 
-pub bins_none : (codes : List ℕ) (a : ℕ) (runs w : List ℕ) → put a (all_runs codes [] runs) w ≡ w
+pub bins_none : (codes : List code.Reading) (a : ℕ) (runs w : List ℕ) → put a (all_runs codes [] runs) w ≡ w
 unfolding all_runs
 bins_none codes a runs w = put-nil a w

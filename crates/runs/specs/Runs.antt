@@ -1,14 +1,13 @@
--- The runs of transition bins by the codes of the points' readings.
+-- The runs of transition bins by the points' readings, as the code has them.
 -- proofs/Exact.antt shows that `all_runs` is the model's `next_runs`.
 -- Assumes nothing.
-use Rattle.std.specs.Prelude.{ℕ, Bool, ◌&&◌, cond, List, [], ◌∷◌, ◌++◌, leb, ltb, eqb, length, get_or, take, drop}
+use Rattle.std.specs.Prelude.{ℕ, Bool, ◌&&◌, List, [], ◌∷◌, ◌++◌, leb, ltb, length, get_or, take, drop}
 use Rattle.model.specs.Lists.{all, sum_of}
 use Rattle.model.specs.Table.{Step, TransitionBin}
-use Rattle.model.specs.Sampling.{Reading, skipped, unknown, known, run_length, next_run}
-
--- the reading whose code it is
-unfoldable pub reading_from : ℕ → Reading
-reading_from code = cond (ltb code 8589934592) (known code) (cond (eqb code 8589934592) skipped unknown)
+use Rattle.model.specs.Sampling.{Reading, run_length, next_run}
+use Rattle.arrays.specs.Flat.{reading_from}
+use Rattle.arrays.specs.declared.reading.Reading as code
+use Rattle.arrays.specs.declared.reading.Reading.TheVariants.{Skipped}
 
 -- ---- runs
 
@@ -21,12 +20,12 @@ bin_runs r (ss ∷ sss) runs = next_run ss (take (run_length ss) runs) r ++ bin_
 abbrev pub bin_words : TransitionBin → ℕ
 bin_words b = sum_of run_length b.sequences
 
--- those of a bin; each point's code stands at its number
-abbrev pub next_bin : List ℕ → TransitionBin → List ℕ → List ℕ
-next_bin codes b runs = bin_runs (reading_from (get_or codes b.point 0)) b.sequences runs
+-- those of a bin; each point's reading stands at its number
+abbrev pub next_bin : List code.Reading → TransitionBin → List ℕ → List ℕ
+next_bin codes b runs = bin_runs (reading_from (get_or codes b.point Skipped)) b.sequences runs
 
 -- the next runs of all bins
-unfoldable pub all_runs : List ℕ → List TransitionBin → List ℕ → List ℕ
+unfoldable pub all_runs : List code.Reading → List TransitionBin → List ℕ → List ℕ
 all_runs codes [] runs = []
 all_runs codes (b ∷ bs) runs = next_bin codes b runs ++ all_runs codes bs (drop (bin_words b) runs)
 

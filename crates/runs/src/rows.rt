@@ -11,17 +11,6 @@ use layout::{Layout, layout_of};
 use ranges::{power, value_at};
 use words::bytes::{byte, read8};
 
-// Four words.
-fn put_four(plan: &mut [u64], at: usize, a: u64, b: u64, c: u64, d: u64)
-    requires { at + 4 ≤ length plan.old }
-    ensures { plan.new ≡ put at (a ∷ b ∷ c ∷ d ∷ []) plan.old }
-{
-    plan[at] = a;
-    plan[at + 1] = b;
-    plan[at + 2] = c;
-    plan[at + 3] = d;
-}
-
 // The words of the range at p, whose step has that bit.
 fn put_range(plan: &mut [u64], at: usize, t: &[u8], p: usize, bit: u64)
     requires { (p < 2000000000) × (at + 4 ≤ length plan.old) }
@@ -30,13 +19,12 @@ fn put_range(plan: &mut [u64], at: usize, t: &[u8], p: usize, bit: u64)
     let kind = byte(t, p);
     let a = read8(t, p + 1);
     let b = read8(t, p + 9);
-    if kind == 0 {
-        let lo = value_at(a);
-        let hi = value_at(b);
-        put_four(plan, at, bit, 0, lo, hi);
-        return;
-    }
-    put_four(plan, at, bit, 1, a, b);
+    let row = if kind == 0 {
+        [bit, 0, value_at(a), value_at(b)]
+    } else {
+        [bit, 1, a, b]
+    };
+    plan[at..at + 4].copy_from_slice(&row);
 }
 
 // Those of n ranges from r on.
@@ -44,10 +32,8 @@ fn put_ranges(plan: &mut [u64], at: usize, t: &[u8], r: usize, n: usize, bit: u6
     requires { (r < 1500000000) × (n < 256) × (at + 4 * n ≤ length plan.old) }
     ensures { plan.new ≡ put at (concat_of (range_words bit) (ranges_at t.now r n)) plan.old }
 {
-    let mut i = 0;
-    while i < n {
+    for i in 0..n {
         put_range(plan, at + 4 * i, t, r + 17 * i, bit);
-        i += 1;
     }
 }
 
@@ -57,12 +43,10 @@ fn put_step_ranges(plan: &mut [u64], at: usize, t: &[u8], p: usize, r: usize, n:
     ensures { (result ≡ range_total t.now p n) × (result ≤ 255 * n) × (plan.new ≡ put at (step_ranges 0 (steps_at t.now p r n)) plan.old) }
 {
     let mut total = 0;
-    let mut i = 0;
-    while i < n {
+    for i in 0..n {
         let k = byte(t, p + 3 * i) as usize;
         put_ranges(plan, at + 4 * total, t, r + 17 * total, k, power(i as u8));
         total += k;
-        i += 1;
     }
     total
 }
@@ -73,14 +57,12 @@ fn put_shape(plan: &mut [u64], at: usize, t: &[u8], p: usize, n: usize) -> usize
     ensures { (result ≡ mosts_at t.now p n) × (plan.new ≡ put at (shape_at t.now p n) plan.old) }
 {
     let mut total = 0;
-    let mut i = 0;
-    while i < n {
+    for i in 0..n {
         let here = p + 3 * i;
         let m = byte(t, here + 2);
         plan[at + 2 * i] = byte(t, here + 1) as u64;
         plan[at + 2 * i + 1] = m as u64;
         total += m as usize;
-        i += 1;
     }
     total
 }
@@ -113,23 +95,15 @@ fn put_rows(plan: &mut [u64], t: &[u8], q: usize, place: Cursor, n: usize) -> Cu
     ensures past { Past t.now q place.steps place.ranges n result.steps result.ranges }
     ensures at_value { (result.at ≡ place.at + length (concat_of sequence_row (sequences_at t.now q place.steps place.ranges n))) × (plan.new ≡ put place.at (concat_of sequence_row (sequences_at t.now q place.steps place.ranges n)) plan.old) }
 {
-    let mut at = place.at;
-    let mut steps = place.steps;
-    let mut ranges = place.ranges;
-    let mut i = 0;
-    while i < n {
+    let mut c = place;
+    for i in 0..n {
         let k = byte(t, q + i) as usize;
-        let m = put_sequence(plan, at, t, steps, ranges, k);
-        at += 3 + 2 * k + 4 * m;
-        steps += 3 * k;
-        ranges += 17 * m;
-        i += 1;
+        let m = put_sequence(plan, c.at, t, c.steps, c.ranges, k);
+        c.at += 3 + 2 * k + 4 * m;
+        c.steps += 3 * k;
+        c.ranges += 17 * m;
     }
-    Cursor {
-        at: at,
-        steps: steps,
-        ranges: ranges,
-    }
+    c
 }
 
 // The row of a bin, with its n sequences.
@@ -160,17 +134,15 @@ fn put_bins(plan: &mut [u64], at: usize, t: &[u8], l: Layout) -> usize
     let n = l.transition_count;
     let mut sequence = l.sequences;
     let mut place = Cursor {
-        at: at,
+        at,
         steps: l.steps,
         ranges: l.step_ranges,
     };
-    let mut i = 0;
-    while i < n {
+    for i in 0..n {
         let here = b + 4 * i;
         let k = byte(t, here + 3);
         place = put_bin(plan, t, sequence, place, byte(t, here), k);
         sequence += k as usize;
-        i += 1;
     }
     place.at
 }

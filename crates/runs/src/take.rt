@@ -1,37 +1,21 @@
 // What a sample does to the runs of all sequences, and the lengths at which they then match, by the rows of the sequences.
-ghost use Rattle.std.specs.Prelude.{◌≡◌, true, cond, List, ℕ, ◌+◌, ◌<◌, ◌≤◌, length, get_or, take, drop};
+ghost use Rattle.std.specs.Prelude.{◌≡◌, true, List, ℕ, ◌+◌, ◌<◌, ◌≤◌, length, get_or, take, drop};
 ghost use Rattle.model.specs.Lists.{sum_of};
 ghost use Rattle.model.specs.Table.{Step};
-ghost use Rattle.model.specs.Values.{in_range};
 ghost use Rattle.model.specs.Sampling.{known, run_length, next_run, matched_lengths};
 ghost use Rattle.model.specs.Counters.{transition_bin_at};
 ghost use Rattle.model.specs.Format.{accepted, table_of};
 ghost use Rattle.model.specs.Register.{sequences, run_total, next_runs, bin_lengths, all_lengths};
 ghost use Rattle.arrays.specs.Put.{put};
-ghost use Rattle.arrays.specs.Flat.{Readings};
+ghost use Rattle.arrays.specs.Flat.{reading_from, Readings};
 ghost use Rattle.sequences.specs.Shapes.{shape_of, admitted_bits, words_of, Fits};
-ghost use Rattle.runs.specs.Runs.{reading_from, next_bin};
-ghost use Rattle.runs.specs.Rows.{range_of, step_ranges, sequence_row, bin_row, Stands, RowFits, SequencesAt};
+ghost use Rattle.runs.specs.Runs.{next_bin};
+ghost use Rattle.runs.specs.Rows.{step_ranges, sequence_row, bin_row, Stands, RowFits, SequencesAt};
 
-use ranges::next::less;
+use arrays::reading::Reading;
+use ranges::member::holds;
 use sequences::{matched_lengths, write_run};
-
-// The range of these words holds the value.
-fn holds(kind: u64, a: u64, b: u64, v: u64) -> bool
-    ensures { result ≡ in_range (range_of kind a b) v }
-{
-    if kind == 0 {
-        (a <= v) & (v <= b)
-    } else {
-        less(v, 2147483648) & b == a
-    }
-}
-
-fn bit_if(h: bool, bit: u64) -> u64
-    ensures { result ≡ cond h bit 0 }
-{
-    if h { bit } else { 0 }
-}
+use words::choices::pick;
 
 // The bits of the steps that hold the value, by the words of their ranges.
 fn admitted(ranges: &[u64], v: u64) -> u64
@@ -39,45 +23,42 @@ fn admitted(ranges: &[u64], v: u64) -> u64
 {
     let n = ranges.len() / 4;
     let mut r: u64 = 0;
-    let mut i = 0;
-    while i < n {
+    for i in 0..n {
         let at = 4 * i;
         let h = holds(ranges[at + 1], ranges[at + 2], ranges[at + 3], v);
-        r = r | bit_if(h, ranges[at]);
-        i += 1;
+        r |= pick(h, ranges[at], 0);
     }
     r
 }
 
-// The same of a reading's code.
-fn admitted_by(ranges: &[u64], code: u64) -> u64
-    ensures { (ss : List Step) → ranges.now ≡ step_ranges 0 ss → result ≡ admitted_bits ss (reading_from code) }
+// The same of a reading.
+fn admitted_by(ranges: &[u64], reading: Reading) -> u64
+    ensures { (ss : List Step) → ranges.now ≡ step_ranges 0 ss → result ≡ admitted_bits ss (reading_from reading) }
 {
-    if code < 8589934592 {
-        admitted(ranges, code)
-    } else {
-        0
+    match reading {
+        Reading::Known(v) => admitted(ranges, v),
+        _ => 0,
     }
 }
 
 // A sequence's next run over its words. A skipped reading leaves them as they are.
-fn next_run(words: &mut [u32], shape: &[u64], ranges: &[u64], code: u64)
+fn next_run(words: &mut [u32], shape: &[u64], ranges: &[u64], reading: Reading)
     requires { Fits shape.now × (length words.old ≡ words_of shape.now) }
-    ensures { (ss : List Step) → shape.now ≡ shape_of ss → ranges.now ≡ step_ranges 0 ss → words.new ≡ next_run ss words.old (reading_from code) }
+    ensures { (ss : List Step) → shape.now ≡ shape_of ss → ranges.now ≡ step_ranges 0 ss → words.new ≡ next_run ss words.old (reading_from reading) }
 {
-    if code == 8589934592 {
+    if reading.is_skipped() {
         return;
     }
-    let bits = admitted_by(ranges, code);
+    let bits = admitted_by(ranges, reading);
     write_run(words, shape, bits);
 }
 
 // The same; answers the lengths at which the sequence then matches.
-fn take_sequence(words: &mut [u32], shape: &[u64], ranges: &[u64], code: u64) -> u32
+fn take_sequence(words: &mut [u32], shape: &[u64], ranges: &[u64], reading: Reading) -> u32
     requires { Fits shape.now × (length words.old ≡ words_of shape.now) }
-    ensures { (ss : List Step) → shape.now ≡ shape_of ss → ranges.now ≡ step_ranges 0 ss → (words.new ≡ next_run ss words.old (reading_from code)) × (result ≡ matched_lengths ss (next_run ss words.old (reading_from code))) }
+    ensures { (ss : List Step) → shape.now ≡ shape_of ss → ranges.now ≡ step_ranges 0 ss → (words.new ≡ next_run ss words.old (reading_from reading)) × (result ≡ matched_lengths ss (next_run ss words.old (reading_from reading))) }
 {
-    next_run(words, shape, ranges, code);
+    next_run(words, shape, ranges, reading);
     matched_lengths(words, shape)
 }
 
@@ -96,10 +77,10 @@ struct Taken {
 }
 
 // The sequence whose row and run words begin at place.
-fn take_row(register: &mut [u32], plan: &[u64], place: RowPlace, code: u64) -> Taken
+fn take_row(register: &mut [u32], plan: &[u64], place: RowPlace, reading: Reading) -> Taken
     requires { RowFits plan.now place.row × (place.words + get_or plan.now (place.row + 1) 0 ≤ length register.old) }
     ensures row_value { (ss : List Step) → Stands plan.now place.row (sequence_row ss) → (result.next.row ≡ place.row + length (sequence_row ss)) × (result.next.words ≡ place.words + run_length ss) }
-    ensures register_after { (ss : List Step) → Stands plan.now place.row (sequence_row ss) → (register.new ≡ put place.words (next_run ss (take (run_length ss) (drop place.words register.old)) (reading_from code)) register.old) × (result.lengths ≡ matched_lengths ss (next_run ss (take (run_length ss) (drop place.words register.old)) (reading_from code))) }
+    ensures register_after { (ss : List Step) → Stands plan.now place.row (sequence_row ss) → (register.new ≡ put place.words (next_run ss (take (run_length ss) (drop place.words register.old)) (reading_from reading)) register.old) × (result.lengths ≡ matched_lengths ss (next_run ss (take (run_length ss) (drop place.words register.old)) (reading_from reading))) }
 {
     let row = place.row;
     let words = place.words;
@@ -111,16 +92,13 @@ fn take_row(register: &mut [u32], plan: &[u64], place: RowPlace, code: u64) -> T
         &mut register[words..stop],
         &plan[shape..ranges],
         &plan[ranges..end],
-        code,
+        reading,
     );
     let next = RowPlace {
         row: end,
         words: stop,
     };
-    Taken {
-        lengths: lengths,
-        next: next,
-    }
+    Taken { lengths, next }
 }
 
 // The sequences of bin b, whose row and run words begin at place. The table is there for the contract.
@@ -128,7 +106,7 @@ fn take_bin(
     register: &mut [u32],
     t: &[u8],
     plan: &[u64],
-    readings: &[u64],
+    readings: &[Reading],
     b: usize,
     place: RowPlace,
 ) -> Taken
@@ -137,24 +115,19 @@ fn take_bin(
     ensures register_after { (register.new ≡ put place.words (next_bin readings.now (transition_bin_at (table_of t.now) b) (drop place.words register.old)) register.old) × (result.lengths ≡ bin_lengths (transition_bin_at (table_of t.now) b).sequences (next_bin readings.now (transition_bin_at (table_of t.now) b) (drop place.words register.old))) }
 {
     let from = place.row;
-    let code = readings[plan[from] as usize];
+    let reading = readings[plan[from] as usize];
     let n = plan[from + 1] as usize;
     let mut lengths: u32 = 0;
     let mut next = RowPlace {
         row: from + 2,
         words: place.words,
     };
-    let mut i = 0;
-    while i < n {
-        let e = take_row(register, plan, next, code);
-        lengths = lengths | e.lengths;
+    for i in 0..n {
+        let e = take_row(register, plan, next, reading);
+        lengths |= e.lengths;
         next = e.next;
-        i += 1;
     }
-    Taken {
-        lengths: lengths,
-        next: next,
-    }
+    Taken { lengths, next }
 }
 
 // Where the run words stand in the register, where the rows of the sequences stand in the plan, and how many transition bins there are.
@@ -171,7 +144,7 @@ pub fn take_runs(
     lens: &mut [u32],
     t: &[u8],
     plan: &[u64],
-    readings: &[u64],
+    readings: &[Reading],
     q: RunPlace,
 )
     requires t_value { (accepted t.now ≡ true) × SequencesAt (table_of t.now) plan.now q.rows × (q.bins ≡ length (table_of t.now).transition_bins) }
@@ -184,11 +157,9 @@ pub fn take_runs(
         row: q.rows,
         words: q.words,
     };
-    let mut i = 0;
-    while i < n {
+    for i in 0..n {
         let e = take_bin(register, t, plan, readings, i, place);
         lens[i] = e.lengths;
         place = e.next;
-        i += 1;
     }
 }

@@ -12,14 +12,14 @@ kept (Some x) None xs ys bs e p = absurd p
 kept (Some x) (Some y) xs ys bs e p = ap (λ (l : List ℕ). l ++ y) e ∙ append_assoc xs bs y ∙ ap (λ (l : List ℕ). xs ++ l) (sym p)
 
 -- n bytes went to the front, and what was read stands behind them
-pub left_kept : (a b : Option (List ℕ)) (old buf new : List ℕ) (from to n count first last : ℕ) → from + n ≡ to → to ≤ length old → buf ≡ put 0 (take n (drop from old)) old
-    → take n new ≡ take n buf → n ≤ count → Consumes a b (drop n (take count new)) → first ≡ 0 → last ≡ count
-    → Keeps (prepend_known (take (to - from) (drop from old)) a) (prepend_known (take (last - first) (drop first new)) b)
-left_kept a b old buf new from to n count first last e k moved front more read f l =
+pub left_kept : (a b : Option (List ℕ)) (old buf new : List ℕ) (from to n count : ℕ) → from + n ≡ to → to ≤ length old → buf ≡ put 0 (take n (drop from old)) old
+    → take n new ≡ take n buf → n ≤ count → Consumes a b (drop n (take count new))
+    → Keeps (prepend_known (take (to - from) (drop from old)) a) (prepend_known (take (count - 0) (drop 0 new)) b)
+left_kept a b old buf new from to n count e k moved front more read =
     let xs = take n (drop from old) in
     let size : length xs ≡ n = length-take-le n (drop from old) (omega (arith, length-drop from old)) in
     let own : take n new ≡ xs = front ∙ ap (take n) moved ∙ front-put n xs old size (omega arith) in
     let cut : take count new ≡ xs ++ drop n (take count new) = sym (take-append-drop n (take count new)) ∙ ap (λ (l : List ℕ). l ++ drop n (take count new)) (take-take n count new more ∙ own) in
     let width : to - from ≡ n = omega arith in
-    let end : last - first ≡ count = omega arith in
-    rw (width, end, f) (kept a b xs (take count new) (drop n (take count new)) cut read)
+    let end : count - 0 ≡ count = omega arith in
+    rw (width, end) (kept a b xs (take count new) (drop n (take count new)) cut read)

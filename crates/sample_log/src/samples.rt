@@ -43,10 +43,7 @@ pub fn block_of(bytes: &[u8], points: usize, illegals: usize) -> Block
         size += one;
         words += illegals;
     }
-    Block {
-        count: count,
-        size: size,
-    }
+    Block { count, size }
 }
 
 // So many words of the bytes, from a place on. Answers where the next one goes.
@@ -54,10 +51,9 @@ fn put_words(words: &mut [u32], at: usize, bytes: &[u8], from: usize, n: usize) 
     requires { (at + n ≤ length words.old) × (at < 65536) × (n < 65536) × (from < 65536) }
     ensures { (result ≡ at + n) × (words.new ≡ put at (rows (u32 bytes.now) 4 from n) words.old) }
 {
-    let mut i = 0;
-    while i < n {
+    // By index: after iter_mut a proof knows no more than the length, and past their end the bytes count as 0.
+    for i in 0..n {
         words[at + i] = read4(bytes, from + 4 * i);
-        i += 1;
     }
     at + n
 }
@@ -70,11 +66,9 @@ pub fn put_samples(words: &mut [u32], bytes: &[u8], points: usize, count: usize)
     let n = 4 + 2 * points;
     let mut at = 0;
     let mut from = 0;
-    let mut i = 0;
-    while i < count {
+    for i in 0..count {
         at = put_words(words, at, bytes, from + 4, n);
         from += 4 + 4 * n;
-        i += 1;
     }
     at
 }

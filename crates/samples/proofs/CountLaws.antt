@@ -8,13 +8,14 @@ use native.Mathlib.Omega.{arith}
 use lib.ListN.{length, take, drop, get_or, set, length-drop, length-set}
 use lib.Seq.{length-take-le, drop-set-lt}
 use Rattle.arrays.specs.Put.{put}
+use Rattle.arrays.specs.declared.reading.Reading as code
 use Rattle.arrays.proofs.PutLaws.{put-cons, put_next, drop-put}
 use Rattle.places.specs.Places.{is_set}
 use Rattle.samples.specs.Adds.{add_hits, is_unknown_code}
 use Rattle.samples.specs.Writes.{counts_after, Countable}
 use Rattle.samples.proofs.WriteLaws.{length-add_hits}
 
-module _ (k p : ℕ) (flags codes w : List ℕ) (ok : Countable k p w) (hf : k ≤ length flags) (hc : p ≤ length codes) where
+module _ (k p : ℕ) (flags : List ℕ) (codes : List code.Reading) (w : List ℕ) (ok : Countable k p w) (hf : k ≤ length flags) (hc : p ≤ length codes) where
   -- after the sample word
   abbrev pub first : List ℕ
   first = set w 1 (get_or w 1 0 + 1)

@@ -19,6 +19,7 @@ use Rattle.model.proofs.AccessTransitions.{transitions_access}
 use Rattle.model.proofs.MeasureBounds.{words_few}
 use Rattle.model.proofs.WellFormed.{WellFormed, well-formed}
 use Rattle.arrays.specs.Put.{put}
+use Rattle.arrays.specs.declared.reading.Reading as code
 use Rattle.arrays.specs.Flat.{hit_flags, reading_codes, Readings}
 use Rattle.layout.specs.Places.{layout_of}
 use Rattle.layout.proofs.PlaceLaws.{points-total}
@@ -62,7 +63,7 @@ module _ (b : List ℕ) (ok : accepted b ≡ true) where
     unfolding words_needed
     runs-room = omega (arith, leb-true (words_needed (table_of b)) (length w) long)
 
-    pub readings-known : (r₀ r : List ℕ) → 16 ≤ length r₀ → r ≡ put 0 (reading_codes (table_of b) s) r₀ → Readings (table_of b) s r
+    pub readings-known : (r₀ r : List code.Reading) → 16 ≤ length r₀ → r ≡ put 0 (reading_codes (table_of b) s) r₀ → Readings (table_of b) s r
     readings-known r₀ r h e =
         record { codes = ap (take (point_total (table_of b))) e ∙ front-put (point_total (table_of b)) (reading_codes (table_of b) s) r₀ (codes-length (table_of b) s) (omega (arith, points_few)); widths = widths }
 

@@ -13,6 +13,7 @@ use Rattle.model.specs.Format.{accepted, table_of}
 use Rattle.model.specs.Register.{counter_total, point_total, sampled_words, sampled_report}
 use Rattle.model.proofs.Readers.{All}
 use Rattle.arrays.specs.Put.{put}
+use Rattle.arrays.specs.declared.reading.Reading as code
 use Rattle.arrays.specs.Flat.{kind_of, reading_codes}
 use Rattle.arrays.proofs.PutLaws.{put_all, front_kept}
 use Rattle.places.specs.Places.{ascending, is_set, of_kind, places_from, illegal_places}
@@ -29,7 +30,7 @@ module _ (b : List ℕ) (ok : accepted b ≡ true) (s w r : List ℕ) (tested : 
     (n k : ℕ) (en : n ≡ point_total (table_of b)) (ek : k ≡ get_or lists 63 0)
     (w₁ : List ℕ) (ew : w₁ ≡ put (2 + counter_total (table_of b) + point_total (table_of b)) (runs_after (table_of b) s w) w)
     (m : ℕ) (h₀ h : List ℕ) (em : m ≡ length (places_from is_set 0 (flags_after (table_of b) s w))) (eh : h ≡ put 0 (places_from is_set 0 (flags_after (table_of b) s w)) h₀) (kh : length h ≡ length h₀)
-    (c₀ c : List ℕ) (ec : c ≡ put 0 (reading_codes (table_of b) s) c₀) (kc : length c ≡ length c₀) where
+    (c₀ c : List code.Reading) (ec : c ≡ put 0 (reading_codes (table_of b) s) c₀) (kc : length c ≡ length c₀) where
   fs : List ℕ
   fs = flags_after (table_of b) s w
 

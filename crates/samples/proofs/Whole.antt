@@ -9,6 +9,7 @@ use lib.ListN.{length, take}
 use Rattle.model.specs.Format.{accepted, table_of}
 use Rattle.model.specs.Register.{counter_total, point_total, sampled_words, sampled_report}
 use Rattle.arrays.specs.Put.{put}
+use Rattle.arrays.specs.declared.reading.Reading as code
 use Rattle.arrays.specs.Flat.{reading_codes}
 use Rattle.samples.specs.Writes.{sample_refusal, runs_after, flags_after, report_of, counts_after, Countable}
 use Rattle.arrays.proofs.PutLaws.{front_kept}
@@ -18,7 +19,7 @@ use Rattle.samples.proofs.WriteLaws.{flags-after-length, codes-length, report-le
 
 module _ (b : List ℕ) (ok : accepted b ≡ true) (s w r : List ℕ) (tested : sample_refusal (table_of b) s w r ≡ 0)
     (k p : ℕ) (ek : k ≡ counter_total (table_of b)) (ep : p ≡ point_total (table_of b))
-    (w₁ f₀ f c₀ c : List ℕ)
+    (w₁ f₀ f : List ℕ) (c₀ c : List code.Reading)
     (ew : w₁ ≡ put (2 + k + p) (runs_after (table_of b) s w) w)
     (ef : f ≡ put 0 (flags_after (table_of b) s w) f₀) (kf : length f ≡ length f₀)
     (ec : c ≡ put 0 (reading_codes (table_of b) s) c₀) (kc : length c ≡ length c₀) where

@@ -1,29 +1,25 @@
 -- What a sample writes, part by part, comes to what the model says.
 -- Assumes nothing.
 use mathlib.Core.Path.{◌≡◌, refl, sym, ap, ap₂, ◌∙◌}
-use mathlib.Core.Bool.{Bool, true, false, ◌&&◌, cond}
+use mathlib.Core.Bool.{Bool, true, false, cond}
 use mathlib.Core.List.{List, [], ◌∷◌, ◌++◌, map, append_assoc}
-use Prim.Native.Nat.{ℕ, zero, suc, ◌+◌, ◌-◌, ◌^◌, ◌≤◌, ◌<◌}
+use Prim.Native.Nat.{ℕ, suc, ◌+◌, ◌≤◌, ◌<◌}
 use native.Mathlib.Omega.{arith}
-use lib.Dec.{leb, ltb, eqb}
-use lib.Pow.{pow_mono}
 use lib.ListN.{length, take, drop, get_or, length-append, length-drop, length-map, take-append-drop}
 use lib.Seq.{take_at, drop_at, drop-drop, length-take-le}
-use borrow.Author.Tests.{leb-true, ltb-true, ne_eqb}
+use borrow.Author.Tests.{leb-true}
 use Rattle.model.specs.Lists.{up_from, keep, pair_up, as_bit}
-use Rattle.model.specs.Table.{Point, Table}
-use Rattle.model.specs.Values.{bias, read_value}
-use Rattle.model.specs.Counters.{Counter, value_bin, default_bin, illegal_bin, transition, illegal_transition, cross_bin, illegal_cross, product, counters, is_illegal, point_at}
-use Rattle.model.specs.Sampling.{skipped, unknown, known, is_unknown, reading, Stretches, hits, adds_unknown, value_word, unknown_word, guard_true}
+use Rattle.model.specs.Table.{Table}
+use Rattle.model.specs.Counters.{Counter, value_bin, default_bin, illegal_bin, transition, illegal_transition, cross_bin, illegal_cross, product, counters, is_illegal}
+use Rattle.model.specs.Sampling.{is_unknown, reading, Stretches, hits, adds_unknown}
 use Rattle.model.specs.Register.{counter_total, point_total, run_total, words_needed, illegal_total, flag_of, samples_of, counts_of, unknowns_of, runs_of, sequences, next_runs, all_lengths, run_stretches, sampled_words, report_words, sampled_report, long_enough, in_widths}
-use Rattle.model.proofs.Booleans.{and_left}
-use Rattle.model.proofs.Limits.{all_from}
-use Rattle.model.proofs.WellFormed.{GoodPoint, WellFormed}
-use Rattle.model.proofs.TableExact.{point_at_lem}
+use Rattle.model.proofs.WellFormed.{WellFormed}
 use Rattle.model.proofs.Lists.{length-up_from, head_tail, length-keep}
 use Rattle.model.proofs.RunBits.{as_bit_eqb}
 use Rattle.arrays.specs.Put.{put}
 use Rattle.arrays.specs.Flat.{hit_flags, kind_of, kinds_of, reading_code, reading_codes}
+use Rattle.arrays.specs.declared.reading.Reading as code
+use Rattle.arrays.proofs.FlatLaws.{from_code}
 use Rattle.arrays.proofs.PutLaws.{length-put, put-zero, put-at}
 use Rattle.sequences.proofs.Sequences.{length_next_runs}
 use Rattle.places.specs.Places.{is_set}
@@ -48,7 +44,7 @@ parts l a c p r =
 
 -- ---- lengths
 
-pub length-add_hits : (f : ℕ → Bool) (xs ns : List ℕ) → length xs ≡ length ns → length (add_hits f xs ns) ≡ length ns
+pub length-add_hits : {A : Type 0} (f : A → Bool) (xs : List A) (ns : List ℕ) → length xs ≡ length ns → length (add_hits f xs ns) ≡ length ns
 unfolding add_hits pair_up
 length-add_hits f [] [] e = refl
 length-add_hits f [] (n ∷ ns) e = absurd (omega arith)
@@ -58,7 +54,7 @@ length-add_hits f (x ∷ xs) (n ∷ ns) e = ap suc (length-add_hits f xs ns (ome
 -- ---- a sample's counts
 
 -- counts raised by flags are counts raised by what has the flags
-adds_map : {A : Type 0} (f : ℕ → Bool) (g : A → ℕ) (h : A → Bool) → ((x : A) → f (g x) ≡ h x) → (xs : List A) (ns : List ℕ)
+adds_map : {A B : Type 0} (f : B → Bool) (g : A → B) (h : A → Bool) → ((x : A) → f (g x) ≡ h x) → (xs : List A) (ns : List ℕ)
     → add_hits f (map g xs) ns ≡ pair_up (λ x n. as_bit (h x) + n) xs ns
 unfolding add_hits pair_up
 adds_map f g h e [] ns = refl
@@ -70,46 +66,13 @@ pub counts-raised : (t : Table) (s : List ℕ) (m : Stretches) (cs : List Counte
 unfolding hit_flags
 counts-raised t s m cs ns = adds_map is_set (λ c. as_bit (hits t s m c)) (hits t s m) (λ c. as_bit_eqb (hits t s m c)) cs ns
 
--- the same for numbers below k
-adds-from : (f : ℕ → Bool) (g : ℕ → ℕ) (h : ℕ → Bool) (k i : ℕ) (n : ℕ) → i + n ≡ k → ((x : ℕ) → x < k → f (g x) ≡ h x) → (ns : List ℕ)
-    → add_hits f (map g (up_from i n)) ns ≡ pair_up (λ x n. as_bit (h x) + n) (up_from i n) ns
-unfolding add_hits pair_up up_from
-adds-from f g h k i zero l e ns = refl
-adds-from f g h k i (suc n) l e [] = refl
-adds-from f g h k i (suc n) l e (m ∷ ns) = ap₂ ◌∷◌ (ap (λ (b : Bool). as_bit b + m) (e i (omega arith))) (adds-from f g h k (suc i) n (omega arith) e ns)
-
--- a reading's value is below 2^33
-value_low : (p : Point) → GoodPoint p → (bits : ℕ) → bits < 2 ^ p.width → read_value p bits < 8589934592
-value_low p g bits h = go (p.signed && leb (2 ^ (p.width - 1)) bits)
-  where
-    go : (b : Bool) → cond b (bits + bias - 2 ^ p.width) (bits + bias) < 8589934592
-    go true = omega (arith, pow_mono {i = p.width} {j = 32} g.narrow)
-    go false = omega (arith, pow_mono {i = p.width} {j = 32} g.narrow)
-
-abbrev fits : Table → List ℕ → ℕ → Bool
-fits t s p = ltb (value_word s p) (2 ^ (point_at t p).width) && ltb (unknown_word s p) (2 ^ (point_at t p).width)
-
-module _ (t : Table) (ok : WellFormed t) (s : List ℕ) (widths : in_widths t s ≡ true) where
-  unknown_code : (p : ℕ) → p < point_total t → is_unknown_code (reading_code (reading t s p)) ≡ adds_unknown t s p
-  unfolding reading in_widths
-  unknown_code p h = go (guard_true s (point_at t p).guard) (eqb (unknown_word s p) 0)
-    where
-      v : ℕ
-      v = read_value (point_at t p) (value_word s p)
-
-      low : v < 8589934592
-      low =
-          let bit : value_word s p < 2 ^ (point_at t p).width = ltb-true _ _ (and_left _ _ (all_from (fits t s) 0 (point_total t) widths p (omega arith) (omega arith))) in
-          value_low (point_at t p) (point_at_lem t ok p) (value_word s p) bit
-
-      go : (g u : Bool) → is_unknown_code (reading_code (cond g (cond u (known v) unknown) skipped)) ≡ is_unknown (cond g (cond u (known v) unknown) skipped)
-      go false u = refl
-      go true false = refl
-      go true true = ne_eqb v 8589934593 (λ e. omega (arith, low))
+module _ (t : Table) (s : List ℕ) where
+  unknown_code : (p : ℕ) → is_unknown_code (reading_code (reading t s p)) ≡ adds_unknown t s p
+  unknown_code p = ap is_unknown (from_code (reading t s p))
 
   pub unknowns_raised : (ns : List ℕ) → add_hits is_unknown_code (reading_codes t s) ns ≡ pair_up (λ p n. as_bit (adds_unknown t s p) + n) (up_from 0 (point_total t)) ns
   unfolding reading_codes
-  unknowns_raised ns = adds-from is_unknown_code (λ p. reading_code (reading t s p)) (adds_unknown t s) (point_total t) 0 (point_total t) (omega arith) unknown_code ns
+  unknowns_raised ns = adds_map is_unknown_code (λ p. reading_code (reading t s p)) (adds_unknown t s) unknown_code (up_from 0 (point_total t)) ns
 
 -- ---- the report
 
@@ -241,7 +204,7 @@ module _ (t : Table) (ok : WellFormed t) (s w : List ℕ) (long : long_enough t 
       unknowns = ap all_room unknowns-there ∙ hu;
     }
 
-    pub words-exact : (flags codes w₂ : List ℕ) → take (counter_total t) flags ≡ flags_after t s w → take (point_total t) codes ≡ reading_codes t s
+    pub words-exact : (flags : List ℕ) (codes : List code.Reading) (w₂ : List ℕ) → take (counter_total t) flags ≡ flags_after t s w → take (point_total t) codes ≡ reading_codes t s
         → w₂ ≡ put 1 (counts_after (counter_total t) (point_total t) flags codes w₁) w₁ → w₂ ≡ sampled_words t s w
     unfolding counts_after sampled_words flags_after runs_after after rest
     words-exact flags codes w₂ ef ec e₂ =
@@ -253,9 +216,9 @@ module _ (t : Table) (ok : WellFormed t) (s w : List ℕ) (long : long_enough t 
         let k = pair_up (λ c n. as_bit (hits t s m c) + n) (counters t) ks in
         let u = pair_up (λ p n. as_bit (adds_unknown t s p) + n) (up_from 0 (point_total t)) us in
         let ek : add_hits is_set (take (counter_total t) flags) (take (counter_total t) (drop 2 w₁)) ≡ k = ap₂ (add_hits is_set) ef counts-there ∙ counts-raised t s m (counters t) ks in
-        let eu : add_hits is_unknown_code (take (point_total t) codes) (take (point_total t) (drop (2 + counter_total t) w₁)) ≡ u = ap₂ (add_hits is_unknown_code) ec unknowns-there ∙ unknowns_raised t ok s widths us in
+        let eu : add_hits is_unknown_code (take (point_total t) codes) (take (point_total t) (drop (2 + counter_total t) w₁)) ≡ u = ap₂ (add_hits is_unknown_code) ec unknowns-there ∙ unknowns_raised t s us in
         let lk : length k ≡ length ks = ap length (sym (counts-raised t s m (counters t) ks)) ∙ length-add_hits is_set (hit_flags t s m (counters t)) ks (flags_length t s m ∙ sym counts_length) in
-        let lu : length u ≡ length us = ap length (sym (unknowns_raised t ok s widths us)) ∙ length-add_hits is_unknown_code (reading_codes t s) us (codes-length t s ∙ sym unknowns_length) in
+        let lu : length u ≡ length us = ap length (sym (unknowns_raised t s us)) ∙ length-add_hits is_unknown_code (reading_codes t s) us (codes-length t s ∙ sym unknowns_length) in
         let new : counts_after (counter_total t) (point_total t) flags codes w₁ ≡ suc n ∷ k ++ u =
         ap₂ (λ (x : ℕ) (xs : List ℕ). suc x ∷ xs) samples-there (ap₂ ◌++◌ ek eu) in
         let old : w₁ ≡ (flag_of w ∷ []) ++ (n ∷ ks ++ us) ++ (rs ++ rest) = is-after ∙ ap (λ (l : List ℕ). flag_of w ∷ n ∷ l) (append_assoc (ks ++ us) rs rest) in

@@ -2,14 +2,17 @@
 -- Assumes nothing.
 use Rattle.std.specs.Prelude.{ℕ, ◌+◌, Bool, ◌||◌, cond, List, [], ◌∷◌, ◌++◌, ltb, eqb}
 use Rattle.model.specs.Lists.{all, pair_up, as_bit}
+use Rattle.model.specs.Sampling.{is_unknown}
+use Rattle.arrays.specs.Flat.{reading_from}
+use Rattle.arrays.specs.declared.reading.Reading as code
 
 -- 1 more at each count whose element passes the test
-unfoldable pub add_hits : (ℕ → Bool) → List ℕ → List ℕ → List ℕ
+unfoldable pub add_hits : {A : Type 0} → (A → Bool) → List A → List ℕ → List ℕ
 add_hits f xs ns = pair_up (λ x n. as_bit (f x) + n) xs ns
 
--- the code of an unknown reading
-abbrev pub is_unknown_code : ℕ → Bool
-is_unknown_code x = eqb x 8589934593
+-- an unknown reading, as the code has it
+abbrev pub is_unknown_code : code.Reading → Bool
+is_unknown_code x = is_unknown (reading_from x)
 
 -- each count can be raised by 1
 abbrev pub has_room : ℕ → Bool

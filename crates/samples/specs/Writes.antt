@@ -6,6 +6,7 @@ use Rattle.model.specs.Counters.{counters}
 use Rattle.model.specs.Lists.{first_failed}
 use Rattle.model.specs.Register.{sequences, runs_of, next_runs, all_lengths, run_stretches, sample, call_tests}
 use Rattle.arrays.specs.Flat.{hit_flags, kinds_of}
+use Rattle.arrays.specs.declared.reading.Reading as code
 use Rattle.places.specs.Places.{is_set}
 use Rattle.samples.specs.Adds.{add_hits, is_unknown_code, all_room, illegal_flags}
 
@@ -26,7 +27,7 @@ abbrev pub report_of : Table → List ℕ → List ℕ
 report_of t flags = illegal_flags (kinds_of (counters t)) flags
 
 -- from word 1 on: the sample word, k counts and p unknown counts
-unfoldable pub counts_after : ℕ → ℕ → List ℕ → List ℕ → List ℕ → List ℕ
+unfoldable pub counts_after : ℕ → ℕ → List ℕ → List code.Reading → List ℕ → List ℕ
 counts_after k p flags codes w =
     suc (get_or w 1 0) ∷ add_hits is_set (take k flags) (take k (drop 2 w)) ++ add_hits is_unknown_code (take p codes) (take p (drop (2 + k) w))
 

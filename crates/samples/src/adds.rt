@@ -4,16 +4,15 @@ ghost use Rattle.arrays.specs.Put.{put};
 ghost use Rattle.samples.specs.Adds.{add_hits, is_unknown_code, all_room};
 
 use arrays::raised;
+use arrays::reading::Reading;
 
 // Each of n counts from at on is raised where its point's reading is unknown.
-pub fn add_unknowns(register: &mut [u32], at: usize, readings: &[u64], n: usize)
+pub fn add_unknowns(register: &mut [u32], at: usize, readings: &[Reading], n: usize)
     requires { (at + n ≤ length register.old) × (n ≤ length readings.now) × (all_room (take n (drop at register.old)) ≡ true) }
     ensures { register.new ≡ put at (add_hits is_unknown_code (take n readings.now) (take n (drop at register.old))) register.old }
 {
-    let mut i = 0;
-    while i < n {
+    for i in 0..n {
         let k = at + i;
-        register[k] = raised(register[k], readings[i] == 8589934593);
-        i += 1;
+        register[k] = raised(register[k], readings[i].is_unknown());
     }
 }

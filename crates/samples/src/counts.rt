@@ -6,13 +6,14 @@ ghost use Rattle.places.specs.Places.{ascending, is_set, places_from};
 ghost use Rattle.samples.specs.Writes.{counts_after, Countable};
 
 use crate::adds::add_unknowns;
+use arrays::reading::Reading;
 use places::raises::raise_each;
 
 // One sample more; the counts at the places and the unknown counts rise.
 pub fn raise_counts(
     register: &mut [u32],
     hits: &[u16],
-    readings: &[u64],
+    readings: &[Reading],
     counters: usize,
     points: usize,
 )

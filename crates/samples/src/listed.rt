@@ -41,12 +41,10 @@ pub fn report_listed(report: &mut [u32], illegals: &[u16], hits: &[u16])
 {
     let n = illegals.len();
     let mut j = 0;
-    let mut i = 0;
-    while i < n {
+    for i in 0..n {
         let k = illegals[i];
         j = seek(hits, j, k);
         let b = is_at(hits, j, k);
         report[i] = as_bit(b) as u32;
-        i += 1;
     }
 }

@@ -11,6 +11,7 @@ ghost use Rattle.samples.specs.Writes.{sample_refusal, runs_after, flags_after};
 use crate::counts::raise_counts;
 use crate::listed::report_listed;
 use arrays::element;
+use arrays::reading::Reading;
 use engine::find_hits;
 use layout::point_count;
 use lists::{BINS_AT, COUNTERS_AT, ROWS_AT};
@@ -21,7 +22,7 @@ use runs::take::{RunPlace, take_runs};
 fn find(
     register: &mut [u32],
     hits: &mut [u16],
-    readings: &mut [u64],
+    readings: &mut [Reading],
     t: &[u8],
     sample: &[u32],
     plan: &[u64],
@@ -62,7 +63,7 @@ pub fn write_planned(
     ensures register_after { register.new ≡ sampled_words (table_of t.now) sample.now register.old }
     ensures report_after { report.new ≡ sampled_report (table_of t.now) sample.now register.old report.old }
 {
-    let mut readings = [0u64; 16];
+    let mut readings = [Reading::Skipped; 16];
     let n = point_count(t);
     let k = element(lists, COUNTERS_AT) as usize;
     let m = find(register, hits, &mut readings, t, sample, plan, lists);

@@ -3,7 +3,7 @@
 
 pub mod planned;
 
-ghost use Rattle.std.specs.Prelude.{◌≡◌, true, ◌*◌, ◌≤◌, length};
+ghost use Rattle.std.specs.Prelude.{◌≡◌, true, ◌*◌, ◌<◌, ◌≤◌, length};
 ghost use Rattle.model.specs.Format.{accepted, table_of};
 ghost use Rattle.model.specs.Counters.{counters};
 ghost use Rattle.model.specs.Register.{point_total};
@@ -41,11 +41,10 @@ pub fn put_kinds(kinds: &mut [u8], t: &[u8]) -> Index
     let n = put_point_kinds(kinds, &mut starts, t);
     put_counts(&mut counts, t, kinds, &starts);
     let m = put_cross_kinds(kinds, n, t, &counts);
-    let points = point_count(t);
     Index {
-        starts: starts,
-        counts: counts,
-        points: points,
+        starts,
+        counts,
+        points: point_count(t),
         counters: m,
     }
 }
@@ -58,70 +57,41 @@ fn totals_in(flags: &mut [u8], t: &[u8], kinds: &[u8], has: &mut [u8], marks: &m
 {
     let starts = x.starts;
     let counts = x.counts;
-    put_planned(has, marks, t, x, 0);
+    put_planned(has, marks, t, x);
     let n = scatter(flags, t, kinds, has, &starts);
     let ask = Ask { at: n, total: true };
     let none = [0u32; 1];
     put_crosses(flags, t, &none, &counts, has, marks, ask);
 }
 
-fn small_totals(flags: &mut [u8], t: &[u8], kinds: &[u8], x: Index)
-    requires { (accepted t.now ≡ true) × Roomy (table_of t.now) (length flags.old) × Indexed (table_of t.now) x × Labelled (table_of t.now) kinds.now × Roomy (table_of t.now) 1024 }
+// The same with scratch of so many elements. It is not inlined: each size has a frame of its own.
+#[inline(never)]
+fn totals_with<const HAS: usize, const MARKS: usize>(
+    flags: &mut [u8],
+    t: &[u8],
+    kinds: &[u8],
+    x: Index,
+)
+    requires { (accepted t.now ≡ true) × Roomy (table_of t.now) (length flags.old) × Indexed (table_of t.now) x × Labelled (table_of t.now) kinds.now × (256 * point_total (table_of t.now) ≤ HAS) × (mark_total (table_of t.now) ≤ MARKS) × (HAS < 65536) × (MARKS < 65536) }
     ensures { flags.new ≡ put 0 (total_flags (table_of t.now) (counters (table_of t.now))) flags.old }
 {
-    let mut has = [0u8; 1024];
-    let mut marks = [0u16; 1024];
+    let mut has = [0u8; HAS];
+    let mut marks = [0u16; MARKS];
     totals_in(flags, t, kinds, &mut has, &mut marks, x);
 }
 
-fn medium_totals(flags: &mut [u8], t: &[u8], kinds: &[u8], x: Index)
-    requires { (accepted t.now ≡ true) × Roomy (table_of t.now) (length flags.old) × Indexed (table_of t.now) x × Labelled (table_of t.now) kinds.now × Roomy (table_of t.now) 4096 }
-    ensures { flags.new ≡ put 0 (total_flags (table_of t.now) (counters (table_of t.now))) flags.old }
-{
-    let mut has = [0u8; 4096];
-    let mut marks = [0u16; 4096];
-    totals_in(flags, t, kinds, &mut has, &mut marks, x);
-}
-
-fn largest_totals(flags: &mut [u8], t: &[u8], kinds: &[u8], x: Index)
-    requires { (accepted t.now ≡ true) × Roomy (table_of t.now) (length flags.old) × Indexed (table_of t.now) x × Labelled (table_of t.now) kinds.now }
-    ensures { flags.new ≡ put 0 (total_flags (table_of t.now) (counters (table_of t.now))) flags.old }
-{
-    let mut has = [0u8; 4096];
-    let mut marks = [0u16; 8192];
-    totals_in(flags, t, kinds, &mut has, &mut marks, x);
-}
-
-// The first class, from class on, that has room. It calls itself, since a compiler then keeps the classes' arrays out of its frame and each other's.
-fn totals_by(flags: &mut [u8], t: &[u8], kinds: &[u8], x: Index, class: usize)
-    requires { (accepted t.now ≡ true) × Roomy (table_of t.now) (length flags.old) × Indexed (table_of t.now) x × Labelled (table_of t.now) kinds.now }
-    ensures { flags.new ≡ put 0 (total_flags (table_of t.now) (counters (table_of t.now))) flags.old }
-{
-    if class == 0 {
-        if (x.counters <= 1024) & (x.points <= 4) {
-            small_totals(flags, t, kinds, x);
-            return;
-        }
-        totals_by(flags, t, kinds, x, 1);
-        return;
-    }
-    if class == 1 {
-        if x.counters <= 4096 {
-            medium_totals(flags, t, kinds, x);
-            return;
-        }
-        totals_by(flags, t, kinds, x, 2);
-        return;
-    }
-    largest_totals(flags, t, kinds, x);
-}
-
-// kinds and x are the table's.
+// kinds and x are the table's. A small table does not pay for the clearing of large arrays.
 pub fn put_totals(flags: &mut [u8], t: &[u8], kinds: &[u8], x: Index)
     requires { (accepted t.now ≡ true) × Roomy (table_of t.now) (length flags.old) × Indexed (table_of t.now) x × Labelled (table_of t.now) kinds.now }
     ensures { flags.new ≡ put 0 (total_flags (table_of t.now) (counters (table_of t.now))) flags.old }
 {
-    totals_by(flags, t, kinds, x, 0);
+    if (x.counters <= 1024) & (x.points <= 4) {
+        return totals_with::<1024, 1024>(flags, t, kinds, x);
+    }
+    if x.counters <= 4096 {
+        return totals_with::<4096, 4096>(flags, t, kinds, x);
+    }
+    totals_with::<4096, 8192>(flags, t, kinds, x)
 }
 
 // The item that each counter belongs to. x is the table's.

@@ -45,35 +45,20 @@ fn plan_in(
     mark_all(marks, t, &counts, plan, lists);
 }
 
-// ---- size classes
-
-fn small_plan(has: &mut [u8], marks: &mut [u16], t: &[u8], x: Index)
-    requires t_value { (accepted t.now ≡ true) × Indexed (table_of t.now) x × (plan_need (table_of t.now) ≤ 768) × (point_total (table_of t.now) ≤ 4) }
+// In arrays of so many elements. It is not inlined: each size has a frame of its own.
+#[inline(never)]
+fn planned_with<const PLAN: usize, const LISTS: usize>(
+    has: &mut [u8],
+    marks: &mut [u16],
+    t: &[u8],
+    x: Index,
+)
+    requires t_value { (accepted t.now ≡ true) × Indexed (table_of t.now) x × (plan_need (table_of t.now) ≤ PLAN) × (64 + 256 * point_total (table_of t.now) ≤ LISTS) × (PLAN < 65536) × (LISTS < 65536) }
     requires t_in_bounds { (256 * point_total (table_of t.now) ≤ length has.old) × (mark_total (table_of t.now) ≤ length marks.old) }
     ensures { Tells (has_value (table_of t.now)) (table_of t.now) has.new × Marked (table_of t.now) marks.new }
 {
-    let mut plan = [0u64; 768];
-    let mut lists = [0u16; 1088];
-    plan_in(has, marks, &mut plan, &mut lists, t, x);
-}
-
-fn medium_plan(has: &mut [u8], marks: &mut [u16], t: &[u8], x: Index)
-    requires t_value { (accepted t.now ≡ true) × Indexed (table_of t.now) x × (plan_need (table_of t.now) ≤ 4096) }
-    requires t_in_bounds { (256 * point_total (table_of t.now) ≤ length has.old) × (mark_total (table_of t.now) ≤ length marks.old) }
-    ensures { Tells (has_value (table_of t.now)) (table_of t.now) has.new × Marked (table_of t.now) marks.new }
-{
-    let mut plan = [0u64; 4096];
-    let mut lists = [0u16; 4160];
-    plan_in(has, marks, &mut plan, &mut lists, t, x);
-}
-
-fn largest_plan(has: &mut [u8], marks: &mut [u16], t: &[u8], x: Index)
-    requires t_value { (accepted t.now ≡ true) × Indexed (table_of t.now) x }
-    requires t_in_bounds { (256 * point_total (table_of t.now) ≤ length has.old) × (mark_total (table_of t.now) ≤ length marks.old) }
-    ensures { Tells (has_value (table_of t.now)) (table_of t.now) has.new × Marked (table_of t.now) marks.new }
-{
-    let mut plan = [0u64; 17552];
-    let mut lists = [0u16; 4160];
+    let mut plan = [0u64; PLAN];
+    let mut lists = [0u16; LISTS];
     plan_in(has, marks, &mut plan, &mut lists, t, x);
 }
 
@@ -88,29 +73,19 @@ pub fn plan_words(ranges: usize, x: Index) -> usize
     9 * ranges + 2 * (counters + n) + 7 * n
 }
 
-// Which cover bins still hold a value, 256 bytes for each point, and the marks of the products of all crosses: by the first class, from class on, that has room.
-pub fn put_planned(has: &mut [u8], marks: &mut [u16], t: &[u8], x: Index, class: usize)
+// Which cover bins still hold a value, 256 bytes for each point, and the marks of the products of all crosses. A small table does not pay for the clearing of large arrays.
+pub fn put_planned(has: &mut [u8], marks: &mut [u16], t: &[u8], x: Index)
     requires t_value { (accepted t.now ≡ true) × Indexed (table_of t.now) x }
     requires t_in_bounds { (256 * point_total (table_of t.now) ≤ length has.old) × (mark_total (table_of t.now) ≤ length marks.old) }
     ensures { Tells (has_value (table_of t.now)) (table_of t.now) has.new × Marked (table_of t.now) marks.new }
 {
     let l = bin_sections(t);
     let need = plan_words(l.range_count, x);
-    if class == 0 {
-        if (x.points <= 4) & (need <= 768) {
-            small_plan(has, marks, t, x);
-            return;
-        }
-        put_planned(has, marks, t, x, 1);
-        return;
+    if (x.points <= 4) & (need <= 768) {
+        return planned_with::<768, 1088>(has, marks, t, x);
     }
-    if class == 1 {
-        if need <= 4096 {
-            medium_plan(has, marks, t, x);
-            return;
-        }
-        put_planned(has, marks, t, x, 2);
-        return;
+    if need <= 4096 {
+        return planned_with::<4096, 4160>(has, marks, t, x);
     }
-    largest_plan(has, marks, t, x);
+    planned_with::<17552, 4160>(has, marks, t, x)
 }

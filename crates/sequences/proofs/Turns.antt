@@ -96,13 +96,3 @@ unfolding shape_words
 shape-end shape s at left enter ws words h =
     let z : drop s shape ≡ [] = drop_of_length-le shape h in
     rw z (put-nil at words)
-
--- ---- load and store
-
-pub copy_turn : (xs ws : List ℕ) (i : ℕ) → i < length xs → i < length ws → put (i + 1) (drop (i + 1) xs) (set ws i (get_or xs i 0)) ≡ put i (drop i xs) ws
-copy_turn xs ws i h k = rw (head_tail xs i 0 h) (put-cons i (get_or xs i 0) (drop (i + 1) xs) ws k)
-
-pub copy_end : (xs ws : List ℕ) (i : ℕ) → length xs ≤ i → put i (drop i xs) ws ≡ ws
-copy_end xs ws i h =
-    let z : drop i xs ≡ [] = drop_of_length-le xs h in
-    rw z (put-nil i ws)

@@ -8,23 +8,12 @@ ghost use Rattle.sequences.specs.Shapes.{shape_of, admitted_bits, words_of, Fits
 ghost use Rattle.sequences.specs.Words.{step_words, complete_from, padded};
 ghost use Rattle.arrays.specs.Put.{put};
 
+use words::choices::pick;
+
 // The run words of a sequence come first, one for each unit of its steps' mosts. The words after them are free.
 #[derive(Clone, Copy)]
 pub struct Run {
     pub words: [u32; 32],
-}
-
-// n - 1, and 0 for 0.
-fn less_one(n: usize) -> usize
-    ensures { result ≡ n - 1 }
-{
-    if n == 0 { 0 } else { n - 1 }
-}
-
-fn gated(b: bool, w: u32) -> u32
-    ensures { result ≡ cond b w 0 }
-{
-    if b { w } else { 0 }
 }
 
 // The lengths at which a step is complete: its words stand from `at` on, and those of `least` or more readings count.
@@ -32,12 +21,10 @@ fn complete(words: &[u32], at: usize, least: usize, most: usize) -> u32
     requires { at + most ≤ length words.now }
     ensures { result ≡ complete_from least (take most (drop at words.now)) }
 {
+    // By index: a slice from least on would need least to be at most most.
     let mut out: u32 = 0;
-    let mut j = less_one(least);
-    while j < most {
-        let p = at + j;
-        out = out | words[p];
-        j += 1;
+    for j in least.saturating_sub(1)..most {
+        out |= words[at + j];
     }
     out
 }
@@ -48,12 +35,10 @@ fn step_words(old: &[u32], words: &mut [u32], at: usize, most: usize, inside: bo
     ensures { words.new ≡ put at (step_words inside enter (take most (drop at old.now))) words.old }
 {
     let mut next = enter;
-    let mut j = 0;
-    while j < most {
+    for j in 0..most {
         let p = at + j;
-        words[p] = gated(inside, next);
+        words[p] = pick(inside, next, 0);
         next = old[p] << 1;
-        j += 1;
     }
 }
 
@@ -63,21 +48,18 @@ impl Run {
         requires { Fits shape.now }
         ensures { (ss : List Step) (reading : Reading) → shape.now ≡ shape_of ss → admitted ≡ admitted_bits ss reading → result.words ≡ next_steps ss (take (run_length ss) self.words) 1 reading ++ replicate (32 - run_length ss) 0 }
     {
-        let n = shape.len();
         let old = self.words;
         let mut words = [0u32; 32];
         let mut enter: u32 = 1;
         let mut left = admitted;
         let mut at = 0;
-        let mut s = 0;
-        while s < n {
-            let least = shape[s] as usize;
-            let most = shape[s + 1] as usize;
+        for s in 0..shape.len() / 2 {
+            let least = shape[2 * s] as usize;
+            let most = shape[2 * s + 1] as usize;
             step_words(&old, &mut words, at, most, left % 2 == 1, enter);
             enter = complete(&old, at, least, most) << 1;
             at += most;
-            left = left / 2;
-            s += 2;
+            left /= 2;
         }
         Run { words }
     }
@@ -88,13 +70,9 @@ fn load(words: &[u32]) -> Run
     requires { length words.now ≤ 32 }
     ensures { result.words ≡ padded words.now }
 {
-    let mut w = [0u32; 32];
-    let mut i = 0;
-    while i < words.len() {
-        w[i] = words[i];
-        i += 1;
-    }
-    Run { words: w }
+    let mut own = [0u32; 32];
+    own[..words.len()].copy_from_slice(words);
+    Run { words: own }
 }
 
 // The run over a sequence's words.
@@ -102,22 +80,8 @@ fn store(words: &mut [u32], run: Run)
     requires { length words.old ≤ 32 }
     ensures { words.new ≡ take (length words.old) run.words }
 {
-    let from = run.words;
-    let mut i = 0;
-    while i < words.len() {
-        words[i] = from[i];
-        i += 1;
-    }
-}
-
-fn clear(words: &mut [u32])
-    ensures { words.new ≡ replicate (length words.old) 0 }
-{
-    let mut i = 0;
-    while i < words.len() {
-        words[i] = 0;
-        i += 1;
-    }
+    let n = words.len();
+    words.copy_from_slice(&run.words[..n]);
 }
 
 // Writes a sequence's next run over its words, which are all that is lent. A reading that lies in no step leaves nothing.
@@ -127,7 +91,7 @@ pub fn write_run(words: &mut [u32], shape: &[u64], admitted: u64)
     ensures { (ss : List Step) (reading : Reading) → shape.now ≡ shape_of ss → admitted ≡ admitted_bits ss reading → words.new ≡ next_steps ss words.old 1 reading }
 {
     if admitted == 0 {
-        clear(words);
+        words.fill(0);
         return;
     }
     let run = load(words);

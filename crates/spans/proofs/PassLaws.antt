@@ -16,36 +16,42 @@ use Rattle.model.proofs.Access.{points_access, bins_access}
 use Rattle.model.proofs.RawExact.{next_place_lem, few_points}
 use Rattle.layout.specs.Places.{layout_of, bin_sections_of, SmallBins}
 use Rattle.layout.specs.declared.BinSections.{BinSections}
-use Rattle.spans.specs.Part.{Other, OthersFrom, OthersTo, ranges_past, PartOf, OwnBins, OwnParts, kept, part_of}
+use Rattle.spans.specs.Part.{Other, OthersFrom, OthersTo, ranges_past, PartOf, OwnBins, OwnParts, kept, added, no_part, part_of}
 use Rattle.spans.specs.declared.collects.Bins.{Bins}
+use Rattle.spans.specs.declared.part.Part.{Part}
 use Rattle.spans.specs.declared.part.Parts.{Parts}
 use Rattle.spans.proofs.Point.{bins_many, bins_most}
 use Rattle.spans.proofs.PartLaws.{other_at, bins-few}
 
+-- one point's part
+abbrev PartIs : List ℕ → ℕ → ℕ → ℕ → ℕ → Part → Type 0
+PartIs s p a r n x = PartOf s p a r n x.bins x.ranges x.count
+
 -- the first n bins, whose first is at a, its ranges from r on: those of each point
-pub record Passed (s : List ℕ) (a r n : ℕ) (bins ranges counts : List ℕ) : Type 0 where
-  pub long : length bins ≡ 16
-  pub long_ranges : length ranges ≡ 16
-  pub long_counts : length counts ≡ 16
-  pub each : (p : ℕ) → p < 16 → PartOf s p a r n (get_or bins p 0) (get_or ranges p 0) (get_or counts p 0)
+pub record Passed (s : List ℕ) (a r n : ℕ) (own : List Part) : Type 0 where
+  pub long : length own ≡ 16
+  pub each : (p : ℕ) → p < 16 → PartIs s p a r n (get_or own p no_part)
 
-get_d-same : (n p x : ℕ) → p < n → get_or (replicate n x) p 0 ≡ x
-get_d-same zero p x h = absurd (omega arith)
-get_d-same (suc n) zero x h = refl
-get_d-same (suc n) (suc p) x h = get_d-same n p x (omega arith)
+get_d-same : {A : Type 0} → (n p : ℕ) (x d : A) → p < n → get_or (replicate n x) p d ≡ x
+get_d-same zero p x d h = absurd (omega arith)
+get_d-same (suc n) zero x d h = refl
+get_d-same (suc n) (suc p) x d h = get_d-same n p x d (omega arith)
 
-pub pass-start : (s : List ℕ) (a r : ℕ) → Passed s a r 0 (replicate 16 a) (replicate 16 r) (replicate 16 0)
+pub pass-start : (s : List ℕ) (a r : ℕ) → Passed s a r 0 (replicate 16 (record { bins = a; ranges = r; count = 0 }))
 unfolding ranges_past
-pass-start s a r = record { long = refl; long_ranges = refl; long_counts = refl; each = none }
+pass-start s a r = record { long = refl; each = λ p h. subst (PartIs s p a r 0) (sym (get_d-same 16 p none no_part h)) (start p) }
   where
-    none : (p : ℕ) → p < 16 → PartOf s p a r 0 (get_or (replicate 16 a) p 0) (get_or (replicate 16 r) p 0) (get_or (replicate 16 0) p 0)
-    none p h =
+    none : Part
+    none = record { bins = a; ranges = r; count = 0 }
+
+    start : (p : ℕ) → PartIs s p a r 0 none
+    start p =
         record {
           skipped = 0;
-          place = omega (arith, get_d-same 16 p a h);
-          ranges = get_d-same 16 p r h;
-          near = omega (arith, get_d-same 16 p r h);
-          few = omega (arith, get_d-same 16 p 0 h);
+          place = omega arith;
+          ranges = refl;
+          near = omega arith;
+          few = omega arith;
           others = λ j i. absurd (omega arith);
           others₁ = λ j g i. absurd (omega arith);
         }
@@ -111,54 +117,22 @@ module _ (s : List ℕ) (p a r i b q m : ℕ) (o : PartOf s p a r i b q m) where
       go true e = part_first (eqb-true m 0 e) a₁ r₁ ea er near
       go false e = part_on a₁ ea
 
-part_as : (s : List ℕ) (p a r n b q m b₁ q₁ m₁ : ℕ) → b ≡ b₁ → q ≡ q₁ → m ≡ m₁ → PartOf s p a r n b₁ q₁ m₁ → PartOf s p a r n b q m
-part_as s p a r n b q m b₁ q₁ m₁ eb eq em o = rw (eb, eq, em) o
-
-pub kept-below : (n b a x : ℕ) → b ≤ a → x ≡ kept n b a → x ≤ a
-kept-below n b a x h e = go (eqb n 0) e
-  where
-    go : (c : Bool) → x ≡ cond c a b → x ≤ a
-    go true e = omega arith
-    go false e = omega arith
-
 -- a bin of point q
-pub pass-turn : (s : List ℕ) (a r i : ℕ) (bins ranges counts : List ℕ) → Passed s a r i bins ranges counts
+pub pass-turn : (s : List ℕ) (a r i : ℕ) (own : List Part) → Passed s a r i own
     → (a₁ r₁ q : ℕ) → a₁ ≡ a + 8 * i → r₁ ≡ ranges_past s a r i → r₁ ≤ r + 1114095 * i → q ≡ byte s a₁ → q < 16
-    → (bins₁ ranges₁ counts₁ : List ℕ) → bins₁ ≡ set bins q (kept (get_or counts q 0) (get_or bins q 0) a₁) → ranges₁ ≡ set ranges q (kept (get_or counts q 0) (get_or ranges q 0) r₁)
-    → counts₁ ≡ set counts q ((a₁ - kept (get_or counts q 0) (get_or bins q 0) a₁) / 8 + 1)
-    → Passed s a r (i + 1) bins₁ ranges₁ counts₁
-pass-turn s a r i bins ranges counts x a₁ r₁ q ea er near eq inside bins₁ ranges₁ counts₁ eb eg en =
-    record {
-      long = ap length eb ∙ length-set bins q b ∙ x.long;
-      long_ranges = ap length eg ∙ length-set ranges q g ∙ x.long_ranges;
-      long_counts = ap length en ∙ length-set counts q ((a₁ - b) / 8 + 1) ∙ x.long_counts;
-      each = λ p h. go p h (eqb p q) refl;
-    }
+    → (x₁ : Part) → x₁ ≡ added (get_or own q no_part) a₁ r₁ → Passed s a r (i + 1) (set own q x₁)
+pass-turn s a r i own x a₁ r₁ q ea er near eq inside x₁ e₁ =
+    record { long = length-set own q x₁ ∙ x.long; each = λ p h. go p h (eqb p q) refl }
   where
-    n : ℕ
-    n = get_or counts q 0
-
-    b : ℕ
-    b = kept n (get_or bins q 0) a₁
-
-    g : ℕ
-    g = kept n (get_or ranges q 0) r₁
-
-    go : (p : ℕ) → p < 16 → (c : Bool) → eqb p q ≡ c → PartOf s p a r (i + 1) (get_or bins₁ p 0) (get_or ranges₁ p 0) (get_or counts₁ p 0)
+    go : (p : ℕ) → p < 16 → (c : Bool) → eqb p q ≡ c → PartIs s p a r (i + 1) (get_or (set own q x₁) p no_part)
     go p h true e =
         let z : q ≡ p = sym (eqb-true p q e) in
-        let own : PartOf s q a r (i + 1) b g ((a₁ - b) / 8 + 1) = part_own s q a r i _ _ n (subst (λ (k : ℕ). PartOf s k a r i (get_or bins k 0) (get_or ranges k 0) (get_or counts k 0)) (sym z) (x.each p h)) a₁ r₁ ea er near in
-        subst (λ (k : ℕ). PartOf s k a r (i + 1) (get_or bins₁ k 0) (get_or ranges₁ k 0) (get_or counts₁ k 0)) z
-        (part_as s q a r (i + 1) _ _ _ _ _ _
-        (ap (λ (l : List ℕ). get_or l q 0) eb ∙ get_or-set_same bins q b 0 (omega (arith, x.long)))
-        (ap (λ (l : List ℕ). get_or l q 0) eg ∙ get_or-set_same ranges q g 0 (omega (arith, x.long_ranges)))
-        (ap (λ (l : List ℕ). get_or l q 0) en ∙ get_or-set_same counts q ((a₁ - b) / 8 + 1) 0 (omega (arith, x.long_counts)))
-        own)
+        let was = get_or own q no_part in
+        let on : PartIs s q a r (i + 1) (added was a₁ r₁) = part_own s q a r i _ _ was.count (x.each q inside) a₁ r₁ ea er near in
+        subst (λ (k : ℕ). PartIs s k a r (i + 1) (get_or (set own q x₁) k no_part)) z
+        (subst (PartIs s q a r (i + 1)) (sym (get_or-set_same own q x₁ no_part (omega (arith, x.long)) ∙ e₁)) on)
     go p h false e =
-        part_as s p a r (i + 1) _ _ _ _ _ _
-        (ap (λ (l : List ℕ). get_or l p 0) eb ∙ get_or-set_other bins q p b 0 (eqb-false p q e))
-        (ap (λ (l : List ℕ). get_or l p 0) eg ∙ get_or-set_other ranges q p g 0 (eqb-false p q e))
-        (ap (λ (l : List ℕ). get_or l p 0) en ∙ get_or-set_other counts q p ((a₁ - b) / 8 + 1) 0 (eqb-false p q e))
+        subst (PartIs s p a r (i + 1)) (sym (get_or-set_other own q p x₁ no_part (eqb-false p q e)))
         (part_past s p a r i _ _ _ (x.each p h) (other_at s p a i a₁ q ea eq (λ z. eqb-false p q e (sym z))))
 
 -- ---- in an accepted table
@@ -186,14 +160,14 @@ module _ (s : List ℕ) (ok : accepted s ≡ true) where
     pub few_bins : l.bin_count ≤ 512
     few_bins = omega (arith, bins-few s l el, bins_most s ok)
 
-    pub pass-end : SmallBins l → (i : ℕ) (bins ranges counts : List ℕ) → i ≤ l.bin_count → l.bin_count ≤ i → Passed s l.bins l.ranges i bins ranges counts
-        → OwnParts s (record { bins = bins; ranges = ranges; counts = counts })
+    pub pass-end : SmallBins l → (i : ℕ) (own : List Part) → i ≤ l.bin_count → l.bin_count ≤ i → Passed s l.bins l.ranges i own → OwnParts s (record { own = own })
     unfolding layout_of
-    pass-end small i bins ranges counts g k x p h =
+    pass-end small i own g k x p h =
         let o = x.each p h in
         let z : i ≡ l.bin_count = omega arith in
+        let y = get_or own p no_part in
         record {
-          part = subst (λ (y : BinSections). PartOf s p y.bins y.ranges y.bin_count (get_or bins p 0) (get_or ranges p 0) (get_or counts p 0)) el (subst (λ (n : ℕ). PartOf s p l.bins l.ranges n (get_or bins p 0) (get_or ranges p 0) (get_or counts p 0)) z o);
+          part = subst (λ (t : BinSections). PartIs s p t.bins t.ranges t.bin_count y) el (subst (λ (n : ℕ). PartIs s p l.bins l.ranges n y) z o);
           near = omega (arith, small.bins, o.place, o.few, few_bins);
           near_ranges = omega (arith, small.ranges, o.near, o.few, few_bins);
           few = omega (arith, o.few, few_bins);

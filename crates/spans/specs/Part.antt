@@ -1,9 +1,10 @@
 -- A part of a table's value bins that has all bins of a point.
 -- Assumes nothing.
-use Rattle.std.specs.Prelude.{ℕ, zero, suc, ◌+◌, ◌*◌, ◌≤◌, ◌<◌, ◌≡◌, false, cond, List, eqb, get_or}
+use Rattle.std.specs.Prelude.{ℕ, zero, suc, ◌+◌, ◌-◌, ◌*◌, ◌/◌, ◌≤◌, ◌<◌, ◌≡◌, false, cond, List, eqb, get_or}
 use Rattle.model.specs.Format.{byte, u16}
 use Rattle.model.specs.Raw.{records_place, record_count}
 use Rattle.spans.specs.declared.collects.Bins.{Bins}
+use Rattle.spans.specs.declared.part.Part.{Part}
 use Rattle.spans.specs.declared.part.Parts.{Parts}
 
 -- the bin at a is another point's
@@ -50,9 +51,21 @@ pub record OwnBins (s : List ℕ) (p : ℕ) (own : Bins) : Type 0 where
 abbrev pub kept : ℕ → ℕ → ℕ → ℕ
 kept n first a = cond (eqb n 0) a first
 
+-- what a point has with one more bin, at a, whose ranges are from r on
+abbrev pub added : Part → ℕ → ℕ → Part
+added x a r =
+    let b = kept x.count x.bins a in
+    record { bins = b; ranges = kept x.count x.ranges r; count = (a - b) / 8 + 1 }
+
+-- none
+abbrev pub no_part : Part
+no_part = record { bins = 0; ranges = 0; count = 0 }
+
 -- point p's among those of all points
 abbrev pub part_of : Parts → ℕ → Bins
-part_of x p = record { bins = get_or x.bins p 0; ranges = get_or x.ranges p 0; count = get_or x.counts p 0 }
+part_of x p =
+    let own = get_or x.own p no_part in
+    record { bins = own.bins; ranges = own.ranges; count = own.count }
 
 -- every point's
 abbrev pub OwnParts : List ℕ → Parts → Type 0

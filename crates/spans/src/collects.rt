@@ -27,10 +27,8 @@ fn range_word(t: &[u8], at: usize, low: u64) -> u64
     requires { (at ≤ 4000000000) × (fits_from low (range_record t.now at) ≡ true) }
     ensures { result ≡ word_from low (range_record t.now at) }
 {
-    let a = read8(t, at + 1);
-    let b = read8(t, at + 9);
-    let lo = value_at(a);
-    let hi = value_at(b);
+    let lo = value_at(read8(t, at + 1));
+    let hi = value_at(read8(t, at + 9));
     span_word(lo - low, hi - low)
 }
 
@@ -39,13 +37,8 @@ pub fn put_ranges(out: &mut [u64], at: usize, t: &[u8], start: usize, n: usize, 
     requires { (start ≤ 2000000000) × (n ≤ 65535) × (at + n ≤ length out.old) × (all (fits_from low) (ranges_at t.now start n) ≡ true) }
     ensures { (result ≡ at + n) × (out.new ≡ put at (words_from low (ranges_at t.now start n)) out.old) }
 {
-    let mut r = start;
-    let mut i = 0;
-    while i < n {
-        let w = range_word(t, r, low);
-        out[at + i] = w;
-        r += 17;
-        i += 1;
+    for i in 0..n {
+        out[at + i] = range_word(t, start + 17 * i, low);
     }
     at + n
 }
@@ -57,34 +50,24 @@ fn put_bin(out: &mut [u64], at: usize, t: &[u8], b: usize, r: usize, p: u8, low:
 {
     let n = read2(t, b + 6);
     if takes(t, b, p) {
-        return put_ranges(out, at, t, r, n as usize, low);
+        put_ranges(out, at, t, r, n as usize, low)
+    } else {
+        at
     }
-    at
 }
 
 // All of them, from the start of `out`. Answers how many.
-pub fn collect(
-    out: &mut [u64],
-    t: &[u8],
-    bins: usize,
-    ranges: usize,
-    n: usize,
-    p: u8,
-    low: u64,
-) -> usize
-    requires { Collectable t.now bins ranges n p low (length out.old) }
-    ensures { (result ≡ length (excluded_at t.now bins ranges n p)) × (out.new ≡ put 0 (words_from low (excluded_at t.now bins ranges n p)) out.old) }
+pub fn collect(out: &mut [u64], t: &[u8], place: Bins, p: u8, low: u64) -> usize
+    requires { Collectable t.now place.bins place.ranges place.count p low (length out.old) }
+    ensures { (result ≡ length (excluded_at t.now place.bins place.ranges place.count p)) × (out.new ≡ put 0 (words_from low (excluded_at t.now place.bins place.ranges place.count p)) out.old) }
 {
     let mut at = 0;
-    let mut b = bins;
-    let mut r = ranges;
-    let mut i = 0;
-    while i < n {
+    let mut r = place.ranges;
+    for i in 0..place.count {
+        let b = place.bins + 8 * i;
         let owned = read2(t, b + 6);
         at = put_bin(out, at, t, b, r, p, low);
-        b += 8;
         r += 17 * owned as usize;
-        i += 1;
     }
     at
 }
@@ -94,9 +77,6 @@ pub fn spans_of(out: &mut [u64], room: &mut [u64], t: &[u8], place: Bins, p: u8,
     requires { (length room.old ≤ length out.old) × Collectable t.now place.bins place.ranges place.count p low (length room.old) }
     ensures { (result ≤ length (excluded_at t.now place.bins place.ranges place.count p)) × Settled (words_from low (excluded_at t.now place.bins place.ranges place.count p)) (take result out.new) }
 {
-    let bins = place.bins;
-    let ranges = place.ranges;
-    let count = place.count;
-    let n = collect(room, t, bins, ranges, count, p, low);
+    let n = collect(room, t, place, p, low);
     settle(&mut room[..n], out)
 }

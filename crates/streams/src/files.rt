@@ -1,6 +1,7 @@
 // Reading files through a buffer: a read that fails is told from the end.
-ghost use Rattle.std.specs.Prelude.{◌+◌, ◌<◌, ◌≤◌, ◌≡◌, length, take, drop};
-ghost use Rattle.std.specs.Io.KnownBytes.{Consumes, IsAtEnd};
+ghost use Rattle.std.specs.Prelude.{◌+◌, ◌<◌, ◌≤◌, ◌≡◌, None, length, take, drop, IfOk};
+ghost use Rattle.std.specs.Io.KnownBytes.{Consumes, IsAtEnd, ReadConsumes};
+ghost use Rattle.std.specs.Io.{ReadsAtMost};
 ghost use Rattle.arrays.specs.Put.{put};
 ghost use Rattle.streams.specs.Counts.{IsPrefixLen};
 
@@ -10,12 +11,6 @@ use std::io::{ErrorKind, Read};
 
 // How often a read that a signal interrupts is tried before it counts as failed.
 const TRIES: u32 = 100000000;
-
-pub fn least(a: usize, b: usize) -> usize
-    ensures { (result ≤ a) × (result ≤ b) }
-{
-    if a < b { a } else { b }
-}
 
 // The system's number for a file that is not there (ENOENT).
 const NOT_THERE: i32 = 2;
@@ -28,34 +23,25 @@ pub fn open(rt: &HostRuntime, path: &[u8]) -> io::Result<File> {
     }
 }
 
-// How many bytes came, and the error of a read that failed.
+// How many bytes came, and the error of the read after them, if it failed: no Result, since both can be there.
 #[derive(Clone, Copy)]
 pub struct Filled {
     pub count: usize,
     pub error: Option<io::Error>,
 }
 
-// One read: 0 bytes at the end, or where it failed.
-fn read_some<R: Read>(part: &mut [u8], file: &mut R) -> Filled
-    ensures count { result.count ≤ length part.new }
-    ensures bytes { Consumes (R.remaining file.old) (R.remaining file.new) (take result.count part.new) }
-    ensures end { result.error ≡ None → result.count ≡ 0 → 0 < length part.new → IsAtEnd (R.remaining file.new) }
+// One read: 0 bytes at the end.
+fn read_some<R: Read>(part: &mut [u8], file: &mut R) -> io::Result<usize>
+    ensures count { ReadsAtMost result part.new }
+    ensures bytes { ReadConsumes (R.remaining file.old) (R.remaining file.new) result part.new }
 {
     let mut tries = 1;
     loop {
         match file.read(part) {
-            Ok(n) => {
-                return Filled {
-                    count: n,
-                    error: None,
-                };
-            }
+            Ok(n) => return Ok(n),
             Err(e) => {
                 if (tries >= TRIES) | (e.kind() != ErrorKind::Interrupted) {
-                    return Filled {
-                        count: 0,
-                        error: Some(e),
-                    };
+                    return Err(e);
                 }
             }
         }
@@ -64,12 +50,11 @@ fn read_some<R: Read>(part: &mut [u8], file: &mut R) -> Filled
 }
 
 // One read, behind the first bytes.
-fn read_behind<R: Read>(buf: &mut [u8], file: &mut R, at: usize) -> Filled
+fn read_behind<R: Read>(buf: &mut [u8], file: &mut R, at: usize) -> io::Result<usize>
     requires { at ≤ length buf.old }
-    ensures count { at + result.count ≤ length buf.new }
+    ensures count { IfOk result (λ n. at + n ≤ length buf.new) }
     ensures front { take at buf.new ≡ take at buf.old }
-    ensures bytes { Consumes (R.remaining file.old) (R.remaining file.new) (take result.count (drop at buf.new)) }
-    ensures end { result.error ≡ None → result.count ≡ 0 → at < length buf.new → IsAtEnd (R.remaining file.new) }
+    ensures bytes { ReadConsumes (R.remaining file.old) (R.remaining file.new) result (drop at buf.new) }
 {
     read_some(&mut buf[at..], file)
 }
@@ -86,15 +71,16 @@ pub fn fill<R: Read>(buf: &mut [u8], file: &mut R, have: usize, want: usize) -> 
 {
     let mut done = have;
     while done < want {
-        let some = read_behind(buf, file, done);
-        let n = some.count;
-        if n == 0 {
-            return Filled {
-                count: done,
-                error: some.error,
-            };
+        match read_behind(buf, file, done) {
+            Ok(0) => break,
+            Ok(n) => done += n,
+            Err(e) => {
+                return Filled {
+                    count: done,
+                    error: Some(e),
+                };
+            }
         }
-        done += n;
     }
     Filled {
         count: done,
@@ -108,11 +94,6 @@ pub fn to_front(buf: &mut [u8], from: usize, to: usize) -> usize
     ensures result_value { from + result ≡ to }
     ensures buf_after { buf.new ≡ put 0 (take result (drop from buf.old)) buf.old }
 {
-    let n = to - from;
-    let mut i = 0;
-    while i < n {
-        buf[i] = buf[from + i];
-        i += 1;
-    }
-    n
+    buf.copy_within(from..to, 0);
+    to - from
 }

@@ -1,18 +1,19 @@
 // What the program says of itself.
 use crate::errors::write_error;
-use crate::out::{Out, say};
-use crate::text::{end_line, say_refusal};
+use crate::out::Out;
+use crate::text::Refusal;
 use std::env::{Env, FillError};
+use std::fmt;
+use std::fmt::Write;
 
 pub fn say_usage(rt: &HostRuntime) {
     write_error(rt, b"usage: replay TABLE LOG   (replay --help explains)\n");
 }
 
 // What it takes.
-fn say_purpose(out: &mut Out) {
-    say(
-        out,
-        b"replay TABLE LOG
+fn say_purpose(out: &mut Out) -> fmt::Result {
+    out.write_str(
+        "replay TABLE LOG
 
 Takes a log of samples with a new register of a coverage table, and writes a report.
   TABLE  a file with the table's bytes, at most 65,536
@@ -27,14 +28,13 @@ The log is 32-bit words, little-endian. An entry's first word says what it is:
 Entries count from 0, samples from 1, places, points and items from 0.
 
 ",
-    );
+    )
 }
 
 // What it writes.
-fn say_lines(out: &mut Out) {
-    say(
-        out,
-        b"The report is lines of text on standard output:
+fn say_lines(out: &mut Out) -> fmt::Result {
+    out.write_str(
+        "The report is lines of text on standard output:
   illegal place P raised at sample S (entry E)
      (in the log's order; the first 10 times of each place)
   illegal place P total: COUNT (SHOWN shown)  (each that was raised)
@@ -50,14 +50,13 @@ An item's percentage is a 64-bit float: times 1,000,000 it is rounded to the
 nearest whole, halves up. The group's is counted in millionths, rounded down.
 
 ",
-    );
+    )
 }
 
 // How its output ends.
-fn say_endings(out: &mut Out) {
-    say(
-        out,
-        b"There is no exit status: the last line on standard output tells. It is
+fn say_endings(out: &mut Out) -> fmt::Result {
+    out.write_str(
+        "There is no exit status: the last line on standard output tells. It is
   end of report  (whole: the log was taken to its end)
 or, after the report on the entries before entry N, why the log was taken no further,
   partial report: log cut at entry N  (the log ends within it)
@@ -76,42 +75,33 @@ nothing more is written to standard output.
 Stack: 1,024 KB.
 
 ",
-    );
-}
-
-fn say_line(out: &mut Out, number: u32) {
-    say(out, b"  ");
-    say_refusal(out, number);
-    end_line(out);
+    )
 }
 
 // A table's, in the order in which they are tested; 3 and 15 to 17 are of one count or field.
-fn say_table_refusals(out: &mut Out) {
-    say_line(out, 1);
-    say_line(out, 2);
-    say_line(out, 3);
-    say_line(out, 15);
-    say_line(out, 16);
-    say_line(out, 17);
-    say_line(out, 4);
-    say_line(out, 5);
-    say_line(out, 6);
+const OF_TABLE: [u32; 9] = [1, 2, 3, 15, 16, 17, 4, 5, 6];
+
+const OF_ENTRY: [u32; 3] = [9, 10, 13];
+
+fn say_numbers(out: &mut Out, numbers: &[u32]) -> fmt::Result {
+    for number in numbers {
+        writeln!(out, "  {}", Refusal(*number))?;
+    }
+    Ok(())
 }
 
-fn say_refusals(out: &mut Out) {
-    say(out, b"Refusals of a table, at the byte PLACE, from 0:\n");
-    say_table_refusals(out);
-    say(out, b"Refusals of an entry:\n");
-    say_line(out, 9);
-    say_line(out, 10);
-    say_line(out, 13);
+fn say_refusals(out: &mut Out) -> fmt::Result {
+    writeln!(out, "Refusals of a table, at the byte PLACE, from 0:")?;
+    say_numbers(out, &OF_TABLE)?;
+    writeln!(out, "Refusals of an entry:")?;
+    say_numbers(out, &OF_ENTRY)
 }
 
-pub fn say_help(out: &mut Out) {
-    say_purpose(out);
-    say_lines(out);
-    say_endings(out);
-    say_refusals(out);
+pub fn say_help(out: &mut Out) -> fmt::Result {
+    say_purpose(out)?;
+    say_lines(out)?;
+    say_endings(out)?;
+    say_refusals(out)
 }
 
 // The first argument is the given word, of at most nine bytes.

@@ -4,5 +4,6 @@
 pub mod errors;
 pub mod files;
 pub mod help;
+mod line;
 pub mod out;
 pub mod text;

@@ -1,36 +1,16 @@
 // Standard output through a buffer.
-ghost use Rattle.std.specs.Prelude.{◌≤◌, length, IfOk};
+ghost use Rattle.std.specs.Prelude.{◌≡◌, ◌≤◌, length, IfOk, OnOk};
 
 use crate::errors::fail;
-use crate::files::least;
-use std::io;
 use std::io::{ErrorKind, Print, Stdout};
 use std::thread::yield_now;
+use std::{fmt, io};
 
 // The bytes of the buffer.
 const SIZE: usize = 16384;
 
 // How often a write that the system does not take now is tried before it counts as failed.
 const TRIES: u32 = 100000000;
-
-// Standard output: the bytes before end of its buffer are not written yet. Once a write has failed
-// nothing more is written.
-#[derive(Drop)]
-pub struct Out {
-    rt: HostRuntime,
-    text: [u8; SIZE],
-    end: usize,
-    failed: bool,
-}
-
-pub fn new_out(rt: &HostRuntime) -> Out {
-    Out {
-        rt: *rt,
-        text: [0; SIZE],
-        end: 0,
-        failed: false,
-    }
-}
 
 fn may_pass(error: io::Error) -> bool {
     let kind = error.kind();
@@ -69,38 +49,63 @@ fn write_whole(to: Stdout, text: &[u8]) -> io::Result<()> {
     Ok(())
 }
 
-// Writes the text that the buffer holds. The first failure is said, and is the last write.
-pub fn flush(out: &mut Out) {
-    if out.failed {
-        return;
-    }
-    let end = least(out.end, SIZE);
-    match write_whole(out.rt.stdout(), &out.text[..end]) {
-        Ok(()) => out.end = 0,
-        Err(e) => {
-            fail(&out.rt, b"replay: cannot write", e);
-            out.failed = true;
+// Standard output: the bytes before end of its buffer are not written yet. Once a write has failed
+// nothing more is written.
+#[derive(Drop)]
+pub struct Out {
+    rt: HostRuntime,
+    text: [u8; SIZE],
+    end: usize,
+    failed: bool,
+    ghost within: { end ≤ 16384 },
+}
+
+impl Out {
+    pub fn new(rt: &HostRuntime) -> Out {
+        Out {
+            rt: *rt,
+            text: [0; SIZE],
+            end: 0,
+            failed: false,
         }
     }
+
+    // Writes the text that the buffer holds. The first failure is said, and is the last write.
+    pub fn flush(&mut self) -> fmt::Result
+        ensures { OnOk result (self.new.end ≡ 0) }
+    {
+        if self.failed {
+            return Err(fmt::Error);
+        }
+        match write_whole(self.rt.stdout(), &self.text[..self.end]) {
+            Ok(()) => {
+                self.end = 0;
+                Ok(())
+            }
+            Err(e) => {
+                fail(&self.rt, b"replay: cannot write", e);
+                self.failed = true;
+                Err(fmt::Error)
+            }
+        }
+    }
+
+    // Makes room for a byte; after a write that failed the buffer stays full.
+    fn put(&mut self, b: u8) -> fmt::Result {
+        if self.end == SIZE {
+            self.flush()?;
+        }
+        self.text[self.end] = b;
+        self.end += 1;
+        Ok(())
+    }
 }
 
-// Makes room for a byte; after a write that failed the buffer stays full.
-fn put(out: &mut Out, b: u8) {
-    if out.end >= SIZE {
-        flush(out);
-    }
-    let end = out.end;
-    if end < SIZE {
-        out.text[end] = b;
-        out.end = end + 1;
-    }
-}
-
-pub fn say(out: &mut Out, text: &[u8]) {
-    if out.failed {
-        return;
-    }
-    for b in text {
-        put(out, *b);
+impl fmt::Write for Out {
+    fn write_str(&mut self, s: &str) -> fmt::Result {
+        for b in s.as_bytes() {
+            self.put(*b)?;
+        }
+        Ok(())
     }
 }

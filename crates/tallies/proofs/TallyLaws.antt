@@ -1,55 +1,50 @@
 -- Laws of tallies: a turn of the loops, and the tallies of a table's counters.
 -- Assumes nothing.
-use mathlib.Core.Path.{◌≡◌, refl, ap, ap₂, sym, ◌∙◌}
+use mathlib.Core.Path.{◌≡◌, refl, ap, ap₂, sym, ◌∙◌, subst}
 use mathlib.Core.Bool.{Bool, true, false, ◌&&◌, cond}
 use mathlib.Core.List.{List, [], ◌∷◌}
-use Prim.Native.Nat.{ℕ, ◌+◌, ◌-◌, ◌≤◌, ◌<◌}
-use native.Mathlib.Nat.{sub-zero, add_assoc}
+use native.Mathlib.Nat.{zero-add}
+use Prim.Native.Nat.{ℕ, ◌+◌, ◌≤◌, ◌<◌}
 use native.Mathlib.Omega.{arith}
 use lib.Dec.{leb, eqb}
-use lib.ListN.{length, take, drop, get_or, set}
-use lib.Seq.{get_or-set_same, get_or-set_other, length-take-le}
-use borrow.Author.Tests.{eqb-true, eqb-false}
+use lib.ListN.{length, drop, get_or, set, replicate, get_or-replicate, drop_of_length-le}
+use lib.Seq.{get_or-set_same, get_or-set_other}
+use borrow.Author.Tests.{eqb-true, eqb-false, eq-eqb}
 use Rattle.model.specs.Lists.{count, as_bit}
 use Rattle.model.specs.Table.{Table}
 use Rattle.model.specs.Counters.{Counter}
 use Rattle.model.specs.Figures.{in_total, item_of, at_least, of_item, total, covered}
-use Rattle.model.proofs.Lists.{part-cons}
+use Rattle.model.proofs.Lists.{head_tail}
 use Rattle.model.proofs.RunBits.{as_bit-le, as_bit_eqb}
 use Rattle.arrays.specs.Flat.{total_flags, items_of}
-use Rattle.tallies.specs.Tallies.{item_total, item_covered}
+use Rattle.tallies.specs.Tallies.{item_total, item_covered, no_tally, with_counter, Tallied, ItemNumbers}
+use Rattle.tallies.specs.declared.ItemTally.{ItemTally}
 
 -- ---- what is left of a pass
 
-abbrev pub left_total : ℕ → List ℕ → List ℕ → ℕ → ℕ → ℕ
-left_total j xs fs i n = item_total j (take (n - i) (drop i xs)) (take (n - i) (drop i fs))
+abbrev pub left_total : ℕ → List ℕ → List ℕ → ℕ → ℕ
+left_total j xs fs i = item_total j (drop i xs) (drop i fs)
 
-abbrev pub left_covered : ℕ → ℕ → List ℕ → List ℕ → List ℕ → ℕ → ℕ → ℕ
-left_covered j least xs fs w i n = item_covered j least (take (n - i) (drop i xs)) (take (n - i) (drop i fs)) (take (n - i) (drop (2 + i) w))
+abbrev pub left_covered : ℕ → ℕ → List ℕ → List ℕ → List ℕ → ℕ → ℕ
+left_covered j least xs fs ns i = item_covered j least (drop i xs) (drop i fs) (drop i ns)
 
-pub total_start : (j : ℕ) (xs fs : List ℕ) (n : ℕ) → left_total j xs fs 0 n ≡ item_total j (take n xs) (take n fs)
-total_start j xs fs n = rw (sub-zero n)
-
-pub covered_start : (j least : ℕ) (xs fs w : List ℕ) (n : ℕ) → left_covered j least xs fs w 0 n ≡ item_covered j least (take n xs) (take n fs) (take n (drop 2 w))
-covered_start j least xs fs w n = rw (sub-zero n)
-
-pub total_end : (j : ℕ) (xs fs : List ℕ) (i n : ℕ) → n ≤ i → left_total j xs fs i n ≡ 0
+total_end : (j : ℕ) (xs fs : List ℕ) (i : ℕ) → length xs ≤ i → left_total j xs fs i ≡ 0
 unfolding item_total
-total_end j xs fs i n h = let z : n - i ≡ 0 = omega arith in rw z
+total_end j xs fs i h = rw (drop_of_length-le xs h)
 
-pub covered-end : (j least : ℕ) (xs fs w : List ℕ) (i n : ℕ) → n ≤ i → left_covered j least xs fs w i n ≡ 0
+covered-end : (j least : ℕ) (xs fs ns : List ℕ) (i : ℕ) → length xs ≤ i → left_covered j least xs fs ns i ≡ 0
 unfolding item_covered
-covered-end j least xs fs w i n h = let z : n - i ≡ 0 = omega arith in rw z
+covered-end j least xs fs ns i h = rw (drop_of_length-le xs h)
 
-module _ (j least : ℕ) (xs fs w : List ℕ) (i n : ℕ) (h : i < n) (hx : n ≤ length xs) (hf : n ≤ length fs) (hw : 2 + n ≤ length w) where
-  pub total_turn : left_total j xs fs i n ≡ as_bit (eqb (get_or xs i 0) j && eqb (get_or fs i 0) 1) + left_total j xs fs (i + 1) n
+module _ (xs fs ns : List ℕ) (i : ℕ) (h : i < length xs) (hf : length xs ≤ length fs) (hn : length xs ≤ length ns) where
+  total_turn : (j : ℕ) → left_total j xs fs i ≡ as_bit (eqb (get_or xs i 0) j && eqb (get_or fs i 0) 1) + left_total j xs fs (i + 1)
   unfolding item_total
-  total_turn = rw (part-cons xs i i n h (omega arith), part-cons fs i i n h (omega arith))
+  total_turn j = rw (head_tail xs i 0 h, head_tail fs i 0 (omega arith))
 
-  pub covered_turn : left_covered j least xs fs w i n
-      ≡ as_bit ((eqb (get_or xs i 0) j && eqb (get_or fs i 0) 1) && leb least (get_or w (2 + i) 0)) + left_covered j least xs fs w (i + 1) n
+  covered_turn : (j least : ℕ) → left_covered j least xs fs ns i
+      ≡ as_bit ((eqb (get_or xs i 0) j && eqb (get_or fs i 0) 1) && leb least (get_or ns i 0)) + left_covered j least xs fs ns (i + 1)
   unfolding item_covered
-  covered_turn = rw (part-cons xs i i n h (omega arith), part-cons fs i i n h (omega arith), part-cons w (2 + i) i n h (omega arith), add_assoc 2 i 1)
+  covered_turn j least = rw (head_tail xs i 0 h, head_tail fs i 0 (omega arith), head_tail ns i 0 (omega arith))
 
 -- ---- bounds
 
@@ -66,11 +61,9 @@ covered_len j least (x ∷ xs) [] ns = omega arith
 covered_len j least (x ∷ xs) (f ∷ fs) [] = omega arith
 covered_len j least (x ∷ xs) (f ∷ fs) (n ∷ ns) = omega (arith, as_bit-le ((eqb x j && eqb f 1) && leb least n), covered_len j least xs fs ns)
 
-pub total-most : (j : ℕ) (xs fs : List ℕ) (n : ℕ) → n ≤ length xs → item_total j (take n xs) (take n fs) ≤ n
-total-most j xs fs n h = omega (arith, total-le j (take n xs) (take n fs), length-take-le n xs h)
-
-pub covered-most : (j least : ℕ) (xs fs ns : List ℕ) (n : ℕ) → n ≤ length xs → item_covered j least (take n xs) (take n fs) ns ≤ n
-covered-most j least xs fs ns n h = omega (arith, covered_len j least (take n xs) (take n fs) ns, length-take-le n xs h)
+pub item-few : (xs : List ℕ) → ItemNumbers xs → (i k : ℕ) → i < length xs → k ≡ get_or xs i 0 → k < 24
+unfolding ItemNumbers
+item-few xs few i k h e = omega (arith, few i h)
 
 -- ---- the tallies of a table's counters
 
@@ -91,53 +84,65 @@ covered-exact t j (c ∷ cs) [] = refl
 covered-exact t j (c ∷ cs) (n ∷ ns) =
     ap₂ ◌+◌ (ap (λ (b : Bool). as_bit ((eqb (item_of t c) j && b) && leb (at_least t j) n)) (as_bit_eqb (in_total t c)) ∙ bit-cond (of_item t j c && leb (at_least t j) n)) (covered-exact t j cs ns)
 
--- ---- turns
+-- ---- the tallies so far
 
-module _ (xs fs w : List ℕ) (i n : ℕ) (h : i < n) (hx : n ≤ length xs) (hf : n ≤ length fs) (hw : 2 + n ≤ length w) (x : ℕ) (ex : x ≡ get_or xs i 0) where
-  -- of one item
-  pub total_on : (j a v z : ℕ) → a + left_total j xs fs i n ≡ z → v ≡ as_bit (eqb x j && eqb (get_or fs i 0) 1) + a → v + left_total j xs fs (i + 1) n ≡ z
-  total_on j a v z e q =
-      let b = ap (λ (y : ℕ). as_bit (eqb y j && eqb (get_or fs i 0) 1)) ex in
-      omega (arith, total_turn j 0 xs fs w i n h hx hf hw)
+-- with what is left, a tally comes to that of all counters
+pub record Ahead (xs fs ns : List ℕ) (i j least : ℕ) (r : ItemTally) : Type 0 where
+  pub total : r.total + left_total j xs fs i ≡ item_total j xs fs
+  pub covered : r.covered + left_covered j least xs fs ns i ≡ item_covered j least xs fs ns
 
-  pub covered_on : (j least a v z : ℕ) → a + left_covered j least xs fs w i n ≡ z → v ≡ as_bit ((eqb x j && eqb (get_or fs i 0) 1) && leb least (get_or w (2 + i) 0)) + a
-      → v + left_covered j least xs fs w (i + 1) n ≡ z
-  covered_on j least a v z e q =
-      let b = ap (λ (y : ℕ). as_bit ((eqb y j && eqb (get_or fs i 0) 1) && leb least (get_or w (2 + i) 0))) ex in
-      omega (arith, covered_turn j least xs fs w i n h hx hf hw)
+abbrev pub AllAhead : List ℕ → List ℕ → List ℕ → List ℕ → ℕ → List ItemTally → Type 0
+AllAhead xs fs ns leasts i rs = (j : ℕ) → j < 24 → Ahead xs fs ns i j (get_or leasts j 0) (get_or rs j no_tally)
 
-  -- of all items: that of x is raised, the others stay
-  pub totals_on : (a : List ℕ) (v : ℕ) → x < length a → v ≡ as_bit (eqb (get_or fs i 0) 1) + get_or a x 0
-      → ((j : ℕ) → j < 24 → get_or a j 0 + left_total j xs fs i n ≡ item_total j (take n xs) (take n fs))
-      → (j : ℕ) → j < 24 → get_or (set a x v) j 0 + left_total j xs fs (i + 1) n ≡ item_total j (take n xs) (take n fs)
-  totals_on a v k q inv j l = go (eqb x j) refl
-    where
-      go : (b : Bool) → eqb x j ≡ b → get_or (set a x v) j 0 + left_total j xs fs (i + 1) n ≡ item_total j (take n xs) (take n fs)
-      go true e =
-          let z = eqb-true x j e in
-          let same : get_or (set a x v) j 0 ≡ v = ap (λ (y : ℕ). get_or (set a x v) y 0) (sym z) ∙ get_or-set_same a x v 0 k in
-          total_on j (get_or a j 0) (get_or (set a x v) j 0) (item_total j (take n xs) (take n fs)) (inv j l)
-          (same ∙ q ∙ ap₂ ◌+◌ (ap (λ (c : Bool). as_bit (c && eqb (get_or fs i 0) 1)) (sym e)) (ap (λ (y : ℕ). get_or a y 0) z))
-      go false e =
-          let other : get_or (set a x v) j 0 ≡ get_or a j 0 = get_or-set_other a x j v 0 (λ y. eqb-false x j e (sym y)) in
-          total_on j (get_or a j 0) (get_or (set a x v) j 0) (item_total j (take n xs) (take n fs)) (inv j l)
-          (other ∙ omega (arith, ap (λ (c : Bool). as_bit (c && eqb (get_or fs i 0) 1)) e))
+module _ (xs fs ns leasts : List ℕ) where
+  pub none-ahead : AllAhead xs fs ns leasts 0 (replicate 24 no_tally)
+  none-ahead j h = subst (Ahead xs fs ns 0 j (get_or leasts j 0)) (sym (get_or-replicate 24 j no_tally no_tally h)) record { total = zero-add _; covered = zero-add _ }
 
-  pub covereds_on : (leasts a : List ℕ) (v : ℕ) → x < length a → v ≡ as_bit (eqb (get_or fs i 0) 1 && leb (get_or leasts x 0) (get_or w (2 + i) 0)) + get_or a x 0
-      → ((j : ℕ) → j < 24 → get_or a j 0 + left_covered j (get_or leasts j 0) xs fs w i n ≡ item_covered j (get_or leasts j 0) (take n xs) (take n fs) (take n (drop 2 w)))
-      → (j : ℕ) → j < 24 → get_or (set a x v) j 0 + left_covered j (get_or leasts j 0) xs fs w (i + 1) n ≡ item_covered j (get_or leasts j 0) (take n xs) (take n fs) (take n (drop 2 w))
-  covereds_on leasts a v k q inv j l = go (eqb x j) refl
-    where
-      whole : ℕ
-      whole = item_covered j (get_or leasts j 0) (take n xs) (take n fs) (take n (drop 2 w))
+  pub few-ahead : (i j least : ℕ) (r : ItemTally) → Ahead xs fs ns i j least r → (r.total ≤ length xs) × (r.covered ≤ length xs)
+  few-ahead i j least r a = (omega (arith, a.total, total-le j xs fs), omega (arith, a.covered, covered_len j least xs fs ns))
 
-      go : (b : Bool) → eqb x j ≡ b → get_or (set a x v) j 0 + left_covered j (get_or leasts j 0) xs fs w (i + 1) n ≡ item_covered j (get_or leasts j 0) (take n xs) (take n fs) (take n (drop 2 w))
-      go true e =
-          let z = eqb-true x j e in
-          let same : get_or (set a x v) j 0 ≡ v = ap (λ (y : ℕ). get_or (set a x v) y 0) (sym z) ∙ get_or-set_same a x v 0 k in
-          covered_on j (get_or leasts j 0) (get_or a j 0) (get_or (set a x v) j 0) whole (inv j l)
-          (same ∙ q ∙ ap₂ ◌+◌ (ap₂ (λ (c : Bool) (y : ℕ). as_bit ((c && eqb (get_or fs i 0) 1) && leb (get_or leasts y 0) (get_or w (2 + i) 0))) (sym e) z) (ap (λ (y : ℕ). get_or a y 0) z))
-      go false e =
-          let other : get_or (set a x v) j 0 ≡ get_or a j 0 = get_or-set_other a x j v 0 (λ y. eqb-false x j e (sym y)) in
-          covered_on j (get_or leasts j 0) (get_or a j 0) (get_or (set a x v) j 0) whole (inv j l)
-          (other ∙ omega (arith, ap (λ (c : Bool). as_bit ((c && eqb (get_or fs i 0) 1) && leb (get_or leasts j 0) (get_or w (2 + i) 0))) e))
+  pub all-tallied : (i : ℕ) (rs : List ItemTally) → length xs ≤ i → length rs ≡ 24 → AllAhead xs fs ns leasts i rs → Tallied xs fs ns leasts rs
+  all-tallied i rs h e a = record {
+    sized = e;
+    totals = λ j l. omega (arith, total_end j xs fs i h, (a j l).total);
+    covered = λ j l. omega (arith, covered-end j (get_or leasts j 0) xs fs ns i h, (a j l).covered);
+  }
+
+  module _ (i : ℕ) (h : i < length xs) (hf : length xs ≤ length fs) (hn : length xs ≤ length ns) (x : ℕ) (ex : x ≡ get_or xs i 0) where
+    abbrev hit : Bool
+    hit = eqb (get_or fs i 0) 1
+
+    abbrev enough : Bool
+    enough = hit && leb (get_or leasts x 0) (get_or ns i 0)
+
+    own-ahead : (r : ItemTally) → Ahead xs fs ns i x (get_or leasts x 0) r → Ahead xs fs ns (i + 1) x (get_or leasts x 0) (with_counter r hit enough)
+    own-ahead r a =
+        let own : eqb (get_or xs i 0) x ≡ true = eq-eqb (get_or xs i 0) x (sym ex) in
+        let u = total_turn xs fs ns i h hf hn x in
+        let v = covered_turn xs fs ns i h hf hn x (get_or leasts x 0) in
+        let t : left_total x xs fs i ≡ as_bit hit + left_total x xs fs (i + 1) = (rw own at u) in
+        let c : left_covered x (get_or leasts x 0) xs fs ns i ≡ as_bit enough + left_covered x (get_or leasts x 0) xs fs ns (i + 1) = (rw own at v) in
+        record { total = omega (arith, t, a.total); covered = omega (arith, c, a.covered) }
+
+    other-ahead : (j : ℕ) (r : ItemTally) → eqb x j ≡ false → Ahead xs fs ns i j (get_or leasts j 0) r → Ahead xs fs ns (i + 1) j (get_or leasts j 0) r
+    other-ahead j r e a =
+        let other : eqb (get_or xs i 0) j ≡ false = (rw ex at e) in
+        let u = total_turn xs fs ns i h hf hn j in
+        let v = covered_turn xs fs ns i h hf hn j (get_or leasts j 0) in
+        let t : left_total j xs fs i ≡ 0 + left_total j xs fs (i + 1) = (rw other at u) in
+        let c : left_covered j (get_or leasts j 0) xs fs ns i ≡ 0 + left_covered j (get_or leasts j 0) xs fs ns (i + 1) = (rw other at v) in
+        record { total = omega (arith, t, a.total); covered = omega (arith, c, a.covered) }
+
+    -- the tally of x is raised, the others stay
+    pub turn-ahead : (rs : List ItemTally) (v : ItemTally) → x < 24 → length rs ≡ 24 → AllAhead xs fs ns leasts i rs → v ≡ with_counter (get_or rs x no_tally) hit enough
+        → AllAhead xs fs ns leasts (i + 1) (set rs x v)
+    turn-ahead rs v k e a ev j l = go (eqb x j) refl
+      where
+        go : (b : Bool) → eqb x j ≡ b → Ahead xs fs ns (i + 1) j (get_or leasts j 0) (get_or (set rs x v) j no_tally)
+        go true q =
+            let same : get_or (set rs x v) x no_tally ≡ with_counter (get_or rs x no_tally) hit enough = get_or-set_same rs x v no_tally (omega arith) ∙ ev in
+            subst (λ (y : ℕ). Ahead xs fs ns (i + 1) y (get_or leasts y 0) (get_or (set rs x v) y no_tally)) (eqb-true x j q)
+            (subst (Ahead xs fs ns (i + 1) x (get_or leasts x 0)) (sym same) (own-ahead (get_or rs x no_tally) (a x k)))
+        go false q =
+            let other : get_or (set rs x v) j no_tally ≡ get_or rs j no_tally = get_or-set_other rs x j v no_tally (λ y. eqb-false x j q (sym y)) in
+            subst (Ahead xs fs ns (i + 1) j (get_or leasts j 0)) (sym other) (other-ahead j (get_or rs j no_tally) q (a j l))

@@ -1,44 +1,42 @@
 // Totals and covered counters of items, by one pass over the counters.
 #![tactic(auto)]
 
-ghost use Rattle.std.specs.Prelude.{◌≡◌, ◌<◌, ◌≤◌, ◌+◌, length, take, drop, get_or};
-ghost use Rattle.tallies.specs.Tallies.{Tallied, ItemNumbers};
+ghost use Rattle.std.specs.Prelude.{◌≡◌, ◌<◌, ◌≤◌, length, get_or};
+ghost use Rattle.tallies.specs.Tallies.{Tallied, ItemNumbers, with_counter};
 
-use arrays::raised;
-
-// By the item's number: a table has at most 24 items.
+// How many counters count in an item's total, and how many of these are covered.
 #[derive(Clone, Copy)]
-pub struct Tallies {
-    pub totals: [u32; 24],
-    pub covered: [u32; 24],
+pub struct ItemTally {
+    pub total: u32,
+    pub covered: u32,
 }
 
-// The i-th of n items.
-fn item_at(items: &[u8], n: usize, i: usize) -> usize
-    requires { (n ≤ length items.now) × ItemNumbers n items.now × (i < n) }
-    ensures { (result ≡ get_or items.now i 0) × (result < 24) }
-{
-    items[i] as usize
+impl ItemTally {
+    // One counter more: hit if it counts in the total, enough if it is covered.
+    fn add(&mut self, hit: bool, enough: bool)
+        requires { (self.old.total ≤ 65536) × (self.old.covered ≤ 65536) }
+        ensures { self.new ≡ with_counter self.old hit enough }
+    {
+        self.total += u32::from(hit);
+        self.covered += u32::from(enough);
+    }
 }
 
-// Of n counters, whose counts stand in the register from word 2 on; the items' at-leasts are lent.
-pub fn tally_all(items: &[u8], flags: &[u8], register: &[u32], n: usize, leasts: &[u32]) -> Tallies
-    requires { (n ≤ length items.now) × (n ≤ length flags.now) × (2 + n ≤ length register.now) × (n ≤ 65536) × (24 ≤ length leasts.now) × ItemNumbers n items.now }
-    ensures { Tallied (take n items.now) (take n flags.now) (take n (drop 2 register.now)) leasts.now result }
+// By the item's number: a table has at most 24 items. Of each counter there are its item, its flag and its count; the items' at-leasts are lent.
+pub fn tally_all(items: &[u8], flags: &[u8], counts: &[u32], leasts: &[u32]) -> [ItemTally; 24]
+    requires { (length items.now ≤ length flags.now) × (length items.now ≤ length counts.now) × (length items.now ≤ 65536) × (24 ≤ length leasts.now) × ItemNumbers items.now }
+    ensures { Tallied items.now flags.now counts.now leasts.now result }
 {
-    let mut totals = [0u32; 24];
-    let mut covered = [0u32; 24];
-    let mut i = 0;
-    while i < n {
-        let k = item_at(items, n, i);
+    let none = ItemTally {
+        total: 0,
+        covered: 0,
+    };
+    let mut tallies = [none; 24];
+    for (i, item) in items.iter().enumerate() {
+        let k = usize::from(*item);
         let hit = flags[i] == 1;
-        let enough = hit & (leasts[k] <= register[2 + i]);
-        totals[k] = raised(totals[k], hit);
-        covered[k] = raised(covered[k], enough);
-        i += 1;
+        let enough = hit & (leasts[k] <= counts[i]);
+        tallies[k].add(hit, enough);
     }
-    Tallies {
-        totals: totals,
-        covered: covered,
-    }
+    tallies
 }

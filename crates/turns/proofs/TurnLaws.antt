@@ -16,10 +16,13 @@ use Rattle.model.specs.Format.{Outcome, decode, decoded, table_of}
 use Rattle.model.specs.Register.{point_total, words_needed, illegal_total, long_enough, consistent, register_tests, sample_tests, call_tests, sampled_words, sampled_report, sample, Effect, accept, perform, on_table, on_outcome, call}
 use Rattle.model.proofs.Lists.{first-passed}
 use Rattle.arrays.proofs.PutLaws.{put-zero}
+use Rattle.std.proofs.Common.{Result, Err}
+use Rattle.refusals.specs.Numbers.{number_of, number_in, pass}
+use Rattle.refusals.specs.declared.refusal.Refusal.{Refusal}
+use Rattle.refusals.proofs.Numbers.{never-none}
 use Rattle.refusals.specs.Refusals.{own_refusal}
 use Rattle.refusals.proofs.SampleLaws.{own_by}
 use Rattle.samples.specs.Writes.{report_of, flags_after}
-use Rattle.samples.proofs.Passed.{all-passed}
 use Rattle.samples.proofs.WriteLaws.{report-length, report-exact}
 use Rattle.turns.specs.Batch.{Batch, ended, sample_size, and_then, in_turn}
 use Rattle.turns.specs.Turns.{Ready, Done, Took, turns, end_of, ahead}
@@ -76,14 +79,14 @@ module _ (s w : List ℕ) (ready : Ready s w) (v r : List ℕ) where
     effect_is : call s w (sample v r) ≡ perform n t w (sample v r)
     effect_is = call_is s t ready.known w v r ∙ ap (λ (k : ℕ). perform k t w (sample v r)) (sym own_is)
 
-    pub one-refused : (n ≡ 0 → ⊥) → Done (call s w (sample v r)) n w r
-    one-refused z = rw effect_is (go n z)
+    pub one-refused : (x : Refusal) → number_of x ≡ n → Done (call s w (sample v r)) (Err x) w r
+    one-refused x z = rw effect_is (go n z)
       where
-        go : (k : ℕ) → (k ≡ 0 → ⊥) → Done (perform k t w (sample v r)) k w r
-        go zero y = absurd (y refl)
-        go (suc k) y = record { number = refl; words = refl; report = refl }
+        go : (k : ℕ) → number_of x ≡ k → Done (perform k t w (sample v r)) (Err x) w r
+        go zero y = absurd (never-none x y)
+        go (suc k) y = record { number = y; words = refl; report = refl }
 
-    pub one-taken : n ≡ 0 → (w' r' : List ℕ) → w' ≡ sampled_words t v w → r' ≡ sampled_report t v w r → Done (call s w (sample v r)) 0 w' r'
+    pub one-taken : n ≡ 0 → (w' r' : List ℕ) → w' ≡ sampled_words t v w → r' ≡ sampled_report t v w r → Done (call s w (sample v r)) pass w' r'
     unfolding accept
     one-taken z w' r' ew er =
         let k = effect_is ∙ ap (λ (m : ℕ). perform m t w (sample v r)) z in
@@ -100,9 +103,6 @@ module _ (s w : List ℕ) (ready : Ready s w) (v r : List ℕ) where
       known = ready.known;
       passes = ap (λ (x : Effect). first_failed (register_tests t x.words)) (taken_is s t ready.known w v r z) ∙ keeps t v w r (all_pass s t ready.known w v r z);
     }
-
-    pub room_for : illegal_total t ≤ length r
-    room_for = (all-passed t v w r (all_pass s t ready.known w v r z)).reported
 
     pub room_after : illegal_total t ≤ length (call s w (sample v r)).response.report
     room_after = report-long s t ready.known w v r z
@@ -134,7 +134,7 @@ unfolding turns in_turn
 turns-none s t w [] r e = refl
 turns-none s t w (x ∷ v) r e = absurd (omega arith)
 
-pub took-none : (s : List ℕ) (t : Table) (w v r : List ℕ) → length v ≡ 0 → Took (turns s t w v r) (record { number = 0; taken = 0 }) w r
+pub took-none : (s : List ℕ) (t : Table) (w v r : List ℕ) → length v ≡ 0 → Took (turns s t w v r) (record { taken = 0; end = pass }) w r
 took-none s t w v r e =
     let b = turns-none s t w v r e in
     record { number = ap (λ (x : Batch). x.number) (sym b); taken = ap (λ (x : Batch). x.taken) (sym b); words = ap (λ (x : Batch). x.words) (sym b); reports = ap (λ (x : Batch). x.reports) (sym b) }
@@ -167,9 +167,9 @@ abbrev call_in : List ℕ → List ℕ → List ℕ → List ℕ → ℕ → ℕ
 call_in s w v r a e k = call s w (sample (take (e - a) (drop a v)) (drop k r))
 
 -- the part of the reports that was lent has come back
-pub part-done : (s w v r : List ℕ) (a e k n : ℕ) (w' p r' : List ℕ) → k ≤ length r
+pub part-done : (s w v r : List ℕ) (a e k : ℕ) (n : Result Unit Refusal) (w' p r' : List ℕ) → k ≤ length r
     → Done (call s w (sample (take (e - a) (drop a v)) (take (length r - k) (drop k r)))) n w' p
-    → r' ≡ take k r ++ (p ++ drop (length r - k) (drop k r)) → DoneAt (call_in s w v r a e k) (take k r) n w' r'
+    → r' ≡ take k r ++ (p ++ drop (length r - k) (drop k r)) → DoneAt (call_in s w v r a e k) (take k r) (number_in n) w' r'
 part-done s w v r a e k n w' p r' h d g =
     let l : length (drop k r) ≤ length r - k = omega (arith, length-drop k r) in
     let x : Done (call_in s w v r a e k) n w' p = rw (take_all (length r - k) (drop k r) l) at d in
@@ -234,7 +234,7 @@ going_start s v w r h = record {
 }
 
 module _ (s v w₀ r₀ w r : List ℕ) (a k taken : ℕ) (g : Going s v w₀ r₀ w r a k taken) where
-  pub going_end : length v ≤ a → Took (turns s (table_of s) w₀ v r₀) (record { number = 0; taken = taken }) w r
+  pub going_end : length v ≤ a → Took (turns s (table_of s) w₀ v r₀) (record { taken = taken; end = pass }) w r
   going_end h =
       let l : length (drop a v) ≡ 0 = omega (arith, length-drop a v) in
       let e = g.whole ∙ ap (ahead taken (take k r)) (turns-none s (table_of s) w (drop a v) (drop k r) l) in
@@ -263,11 +263,11 @@ module _ (s v w₀ r₀ w r : List ℕ) (a k taken : ℕ) (g : Going s v w₀ r�
     whole-more : turns s (table_of s) w₀ v r₀ ≡ ahead taken (take k r) (and_then ill n x left)
     whole-more = g.whole ∙ ap (ahead taken (take k r)) one_more
 
-    pub going-stop : (n ≡ 0 → ⊥) → Took (turns s (table_of s) w₀ v r₀) (record { number = n; taken = taken }) w' r'
-    going-stop z =
-        let q = whole-more ∙ ap (ahead taken (take k r)) (then-refused ill n x left z) in
+    pub going-stop : (y : Refusal) → number_of y ≡ n → Took (turns s (table_of s) w₀ v r₀) (record { taken = taken; end = Err y }) w' r'
+    going-stop y z =
+        let q = whole-more ∙ ap (ahead taken (take k r)) (then-refused ill n x left (λ o. never-none y (z ∙ o))) in
         record {
-          number = ap (λ (b : Batch). b.number) (sym q);
+          number = z ∙ ap (λ (b : Batch). b.number) (sym q);
           taken = sym (ap (λ (b : Batch). b.taken) q ∙ add-zero taken);
           words = d.words ∙ ap (λ (b : Batch). b.words) (sym q);
           reports = d.reports ∙ ap (λ (b : Batch). b.reports) (sym q);
@@ -276,9 +276,6 @@ module _ (s v w₀ r₀ w r : List ℕ) (a k taken : ℕ) (g : Going s v w₀ r�
     module _ (z : n ≡ 0) (illegals : ℕ) (i : illegals ≡ illegal_total (table_of s)) where
       zero_number : x.response.number ≡ 0
       zero_number = sym d.number ∙ z
-
-      pub going-room : k + illegals ≤ length r
-      going-room = omega (arith, i, room_for s w g.ready _ _ zero_number, length-drop k r, g.written)
 
       taken-part : take (k + ill) r' ≡ take k r ++ take ill x.response.report
       taken-part =

@@ -1,11 +1,13 @@
 -- What the code's parts say.
 -- Assumes nothing.
-use Rattle.std.specs.Prelude.{ℕ, ◌+◌, ◌-◌, ◌≤◌, ◌≡◌, cond, List, ◌++◌, leb, length}
+use Rattle.std.specs.Prelude.{ℕ, ◌+◌, ◌-◌, ◌≤◌, ◌≡◌, cond, List, ◌++◌, leb, length, Result}
 use Rattle.model.specs.Lists.{first_failed}
 use Rattle.model.specs.Table.{Table}
 use Rattle.model.specs.Format.{decode, decoded, table_of}
 use Rattle.model.specs.Register.{counter_total, Effect, register_tests}
 use Rattle.samples.specs.Prepared as Plans
+use Rattle.refusals.specs.Numbers.{number_in}
+use Rattle.refusals.specs.declared.refusal.Refusal.{Refusal}
 use Rattle.turns.specs.declared.Taken.{Taken}
 use Rattle.turns.specs.Batch.{Batch, in_turn}
 
@@ -19,15 +21,15 @@ pub record Prepared (s plan lists : List ℕ) (hits : ℕ) : Type 0 where
   pub planned : Plans.Prepared (table_of s) plan lists
   pub room : counter_total (table_of s) + 256 ≤ hits
 
--- a sample's effect: its number, the words and the report
-pub record Done (e : Effect) (n : ℕ) (w r : List ℕ) : Type 0 where
-  pub number : n ≡ e.response.number
+-- a sample's effect: the answer, the words and the report
+pub record Done (e : Effect) (a : Result Unit Refusal) (w r : List ℕ) : Type 0 where
+  pub number : number_in a ≡ e.response.number
   pub words : w ≡ e.words
   pub report : r ≡ e.response.report
 
 -- the answer and what is written are the batch's
 pub record Took (b : Batch) (a : Taken) (w r : List ℕ) : Type 0 where
-  pub number : a.number ≡ b.number
+  pub number : number_in a.end ≡ b.number
   pub taken : a.taken ≡ b.taken
   pub words : w ≡ b.words
   pub reports : r ≡ b.reports

@@ -8,14 +8,15 @@ ghost use Rattle.turns.specs.Turns.{Ready, Prepared, Done, Took, turns, end_of};
 
 use arrays::element;
 use layout::point_count;
-use refusals::own_refusal;
+use refusals::refusal::Refusal;
+use refusals::test_sample;
 use samples::write::write_planned;
 
-// The refusal number of the first refused sample, 0 if none is; and how many were taken before it.
+// How many samples were taken, and how that ended: with the first refused sample, or with the last.
 #[derive(Clone, Copy)]
 pub struct Taken {
-    pub number: u32,
     pub taken: usize,
+    pub end: Result<(), Refusal>,
 }
 
 // One sample: its own tests, and what it writes.
@@ -27,18 +28,15 @@ fn one(
     plan: &[u64],
     lists: &[u16],
     hits: &mut [u16],
-) -> u32
+) -> Result<(), Refusal>
     requires { Ready t.now register.old × Prepared t.now plan.now lists.now (length hits.old) }
     ensures { Done (call t.now register.old (sample s.now report.old)) result register.new report.new }
 {
     let points = point_count(t);
     let illegals = element(lists, 81 + 514 * points) as usize;
-    let number = own_refusal(t, s, report, register[0], register[1], points, illegals);
-    if number != 0 {
-        return number;
-    }
+    test_sample(t, s, report, register[0], register[1], points, illegals)?;
     write_planned(register, report, t, s, plan, lists, hits);
-    0
+    Ok(())
 }
 
 // Where the sample that begins at a ends: the last one where the words end.
@@ -70,19 +68,15 @@ pub fn each(
     let mut taken = 0;
     while a < s.len() {
         let e = end_of(size, a, s.len());
-        let number = one(register, &mut reports[k..], t, &s[a..e], plan, lists, hits);
-        if number != 0 {
+        if let Err(refusal) = one(register, &mut reports[k..], t, &s[a..e], plan, lists, hits) {
             return Taken {
-                number: number,
-                taken: taken,
+                taken,
+                end: Err(refusal),
             };
         }
         a = e;
         k += illegals;
         taken += 1;
     }
-    Taken {
-        number: 0,
-        taken: taken,
-    }
+    Taken { taken, end: Ok(()) }
 }

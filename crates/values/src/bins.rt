@@ -1,19 +1,13 @@
 // The value bins of a table: which list a value.
-ghost use Rattle.std.specs.Prelude.{◌≡◌, ◌<◌, ◌≤◌, cond};
+ghost use Rattle.std.specs.Prelude.{◌≡◌, ◌<◌, ◌≤◌};
 ghost use Rattle.model.specs.Raw.{bins_at};
 ghost use Rattle.values.specs.Listed.{listed_in, first_listing};
 
 use ranges::member::in_range;
 use words::bytes::{byte, read2};
+use words::choices::pick;
 
-// How many ranges of a bin to look at: none of another point's.
-fn own_ranges(own: bool, n: u16) -> usize
-    ensures { (result ≡ cond own n 0) × (result ≤ n) }
-{
-    if own { n as usize } else { 0 }
-}
-
-// The number of the first bin of the point that lists the value, or n.
+// The number of the first bin of the point that lists the value, or n. (Document 01 names this form: loops left by a label, with the bin's place.)
 pub fn first_listing(t: &[u8], a: usize, r: usize, n: usize, p: u8, v: u64) -> usize
     requires { (a < 1000000000) × (r < 1000000000) × (n ≤ 512) }
     ensures { result ≡ first_listing p v 0 (bins_at t.now a r n) }
@@ -27,13 +21,12 @@ pub fn first_listing(t: &[u8], a: usize, r: usize, n: usize, p: u8, v: u64) -> u
         let here = a + 8 * bin;
         let q = byte(t, here);
         let k = read2(t, here + 6);
-        let m = own_ranges(q == p, k);
-        let mut j = 0;
-        while j < m {
+        // None of another point's.
+        let m = pick(q == p, k as usize, 0);
+        for j in 0..m {
             if in_range(t, at + 17 * j, v) {
                 break 'bins bin;
             }
-            j += 1;
         }
         at += 17 * (k as usize);
         bin += 1;

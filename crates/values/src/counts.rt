@@ -26,6 +26,5 @@ pub fn share_of(all: u64, number: usize) -> u64
     requires { 1 ≤ number }
     ensures { (result ≡ max 1 (all / number)) × (1 ≤ result) }
 {
-    let k = all / (number as u64);
-    if k < 1 { 1 } else { k }
+    (all / (number as u64)).max(1)
 }

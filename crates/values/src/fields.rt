@@ -18,7 +18,7 @@ pub fn field(t: &[u8], at: usize) -> u64
 pub fn word(s: &[u32], at: usize) -> u32
     ensures { result ≡ get_or s.now at 0 }
 {
-    if at < s.len() { s[at] } else { 0 }
+    s.get(at).copied().unwrap_or(0)
 }
 
 pub fn bit_of(w: u32, i: u8) -> bool
@@ -31,6 +31,7 @@ pub fn bit_of(w: u32, i: u8) -> bool
 pub fn guard_true(s: &[u32], g: u8) -> bool
     ensures { result ≡ guard_true s.now (guard_from g) }
 {
+    // The table's format writes 255 where a bin has no guard.
     if g == 255 {
         true
     } else {

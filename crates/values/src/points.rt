@@ -1,28 +1,40 @@
 // The auto bins of a point.
-ghost use Rattle.std.specs.Prelude.{◌≡◌, ◌<◌, ◌≤◌, min};
+ghost use Rattle.std.specs.Prelude.{◌≡◌, ◌<◌, ◌≤◌, ◌&&◌, ◌||◌, min, leb, eqb};
 ghost use Rattle.model.specs.Format.{point_record};
 ghost use Rattle.model.specs.Values.{lowest};
 ghost use Rattle.ranges.specs.Types.{Wide};
 ghost use Rattle.values.specs.Counts.{autos_of};
 ghost use Rattle.values.specs.Points.{some_own, has_auto_at};
 
+use ranges::{lowest, power, type_at};
 use words::bytes::{byte, read2};
+use words::kinds::Kind;
+
+// A bin of that kind bars auto bins: a cover bin does, a default bin if these count.
+fn bars(k: u8, defaults: bool) -> bool
+    ensures { result ≡ (eqb k 0 || (defaults && leb 3 k)) }
+{
+    match Kind::from(k) {
+        Kind::Cover => true,
+        Kind::Default => defaults,
+        _ => false,
+    }
+}
 
 // One of n records of size bytes is a cover bin of the point, or a default bin if these count.
 fn some_own(t: &[u8], start: usize, size: usize, n: usize, p: u8, defaults: bool) -> bool
     requires { (start < 1000000000) × (size ≤ 8) × (n < 65536) }
     ensures { result ≡ some_own t.now p defaults size start n }
 {
+    // A cursor, since start + size * i would have to be bounded as a product of two variables.
     let mut at = start;
-    let mut i = 0;
-    while i < n {
+    for i in 0..n {
         let q = byte(t, at);
         let k = byte(t, at + 1);
-        if (q == p) & ((k == 0) | (defaults & (3 <= k))) {
+        if (q == p) & bars(k, defaults) {
             return true;
         }
         at += size;
-        i += 1;
     }
     false
 }
@@ -40,11 +52,7 @@ pub fn has_auto(t: &[u8], a: usize, n: usize, b: usize, k: usize, p: u8) -> bool
 pub fn auto_count(all: u64, most: u16) -> usize
     ensures { result ≡ min all most }
 {
-    if all < most as u64 {
-        all as usize
-    } else {
-        most as usize
-    }
+    all.min(most as u64) as usize
 }
 
 // How many auto bins the point has whose record stands at point. has: it has some.
@@ -55,9 +63,7 @@ pub fn auto_total(t: &[u8], point: usize, has: bool) -> usize
     if !has {
         return 0;
     }
-    let width = byte(t, point);
-    let all = ranges::power(width);
-    auto_count(all, read2(t, point + 9))
+    auto_count(power(byte(t, point)), read2(t, point + 9))
 }
 
 // The lowest value of the point's type.
@@ -65,7 +71,5 @@ pub fn lowest_at(t: &[u8], point: usize) -> u64
     requires { (point < 1000000000) × Wide t.now point }
     ensures { result ≡ lowest (point_record t.now point) }
 {
-    let width = byte(t, point);
-    let signed = byte(t, point + 1);
-    ranges::lowest(width, signed == 1)
+    lowest(type_at(t, point))
 }

@@ -1,57 +1,39 @@
 -- Verdicts one after the other: records in a row cut anywhere, and what owners own as one row.
 -- Assumes nothing.
+use Rattle.std.proofs.Common.{Ok, Err}
 use Prim.Native.Nat.{ℕ, zero, suc, ◌+◌, ◌-◌, ◌<◌}
 use mathlib.Core.Path.{◌≡◌, refl, sym, ap, ◌∙◌}
 use mathlib.Core.List.{List, [], ◌∷◌, ◌++◌}
 use native.Mathlib.Omega.{arith}
 use Rattle.model.specs.Lists.{sum_of, concat_of}
-use Rattle.model.specs.Format.{FaultClass, too_long, cut, count, value, unused, field, disagreement, leftover, limits, number_of, Read, refused, got, Reader, and_then, times, each}
+use Rattle.model.specs.Format.{Read, refused, got, Reader, and_then, times, each}
 use Rattle.model.specs.Raw.{rows}
-use Rattle.words.specs.Verdicts.{verdict, verdict_of}
-use Rattle.words.specs.declared.verdicts.Verdict.{Verdict}
+use Rattle.words.specs.Verdicts.{Verdict, verdict_of}
+use Rattle.words.specs.declared.verdicts.Fault.{Fault}
 use Rattle.words.proofs.Laws.{verdict-done, each-stop, each_on}
 
 -- ---- one verdict after the other
 
-unfoldable pub unless_fault : ℕ → Verdict → Verdict → Verdict
-unless_fault zero v w = w
-unless_fault (suc c) v w = v
-
 -- a verdict, and where it is sound what k says from its place on
 unfoldable pub goes_on : Verdict → (ℕ → Verdict) → Verdict
-goes_on v k = unless_fault v.number v (k v.at)
+goes_on (Err f) k = Err f
+goes_on (Ok at) k = k at
 
 pub goes_same : (v : Verdict) (k l : ℕ → Verdict) → ((at : ℕ) → k at ≡ l at) → goes_on v k ≡ goes_on v l
 unfolding goes_on
-goes_same v k l h = ap (unless_fault v.number v) (h v.at)
+goes_same (Err f) k l h = refl
+goes_same (Ok at) k l h = h at
 
 pub goes_assoc : (v : Verdict) (k l : ℕ → Verdict) → goes_on (goes_on v k) l ≡ goes_on v (λ at. goes_on (k at) l)
 unfolding goes_on
-goes_assoc v k l = go v.number refl
-  where
-    go : (c : ℕ) → v.number ≡ c
-        → unless_fault (unless_fault c v (k v.at)).number (unless_fault c v (k v.at)) (l (unless_fault c v (k v.at)).at)
-        ≡ unless_fault c v (unless_fault (k v.at).number (k v.at) (l (k v.at).at))
-    go zero e = unfold unless_fault in refl
-    go (suc c) e = unfold unless_fault in (ap (λ (x : ℕ). unless_fault x v (l v.at)) e)
-
-refused-stays : (c : FaultClass) (at : ℕ) (k : ℕ → Verdict) → verdict (number_of c) at ≡ goes_on (verdict (number_of c) at) k
-unfolding goes_on unless_fault
-refused-stays too_long at k = refl
-refused-stays cut at k = refl
-refused-stays count at k = refl
-refused-stays value at k = refl
-refused-stays unused at k = refl
-refused-stays field at k = refl
-refused-stays disagreement at k = refl
-refused-stays leftover at k = refl
-refused-stays limits at k = refl
+goes_assoc (Err f) k l = refl
+goes_assoc (Ok at) k l = refl
 
 pub then-verdict : {A B : Type 0} (m : Read A) (k : A → Reader B) (g : ℕ → Verdict) → ((a : A) (at : ℕ) → verdict_of (k a at) ≡ g at)
     → verdict_of (and_then m k) ≡ goes_on (verdict_of m) g
-unfolding verdict_of
-then-verdict (refused f) k g h = refused-stays f.class f.at g
-then-verdict (got a at) k g h = unfold goes_on unless_fault in h a at
+unfolding verdict_of goes_on
+then-verdict (refused f) k g h = refl
+then-verdict (got a at) k g h = h a at
 
 -- a record and those after it
 pub cons-verdict : {A : Type 0} (m : Read A) (k : ℕ → Read (List A))
@@ -73,7 +55,7 @@ times-same one other h (suc n) at =
 
 pub times-add : {A : Type 0} (one : Reader A) (a b at : ℕ) → verdict_of (times (a + b) one at) ≡ goes_on (verdict_of (times a one at)) (λ next. verdict_of (times b one next))
 unfolding times
-times-add one zero b at = ap (λ (n : ℕ). verdict_of (times n one at)) (let y : 0 + b ≡ b = omega arith in y) ∙ (unfold goes_on unless_fault verdict_of in refl)
+times-add one zero b at = ap (λ (n : ℕ). verdict_of (times n one at)) (let y : 0 + b ≡ b = omega arith in y) ∙ (unfold goes_on verdict_of in refl)
 times-add one (suc a) b at =
     ap (λ (n : ℕ). verdict_of (times n one at)) (let y : suc a + b ≡ suc (a + b) = omega arith in y)
     ∙ cons-verdict (one at) (times (a + b) one)
@@ -85,7 +67,7 @@ times-add one (suc a) b at =
 
 pub each_append : {A B : Type 0} (one : A → Reader B) (xs ys : List A) (at : ℕ) → verdict_of (each one (xs ++ ys) at) ≡ goes_on (verdict_of (each one xs at)) (λ next. verdict_of (each one ys next))
 unfolding each
-each_append one [] ys at = unfold goes_on unless_fault verdict_of in refl
+each_append one [] ys at = unfold goes_on verdict_of in refl
 each_append one (x ∷ xs) ys at =
     cons-verdict (one x at) (each one (xs ++ ys))
     ∙ goes_same (verdict_of (one x at)) _ _ (each_append one xs ys)
@@ -117,9 +99,9 @@ module _ {A B : Type 0} (one : A → Reader B) where
 
 -- an owner in a row that the code has read already
 module _ {A B : Type 0} (one : A → Reader B) (says : ℕ → A) (size m i place at : ℕ) (x : Verdict) (inv : x ≡ verdict_of (each one (rows says size place (m - i)) at))
-    (o : A) (r : Verdict) (h : i < m) (eo : o ≡ says place) (e : r ≡ verdict_of (one o at)) where
-  pub owner_stop : (r.number ≡ 0 → ⊥) → r ≡ x
-  owner_stop z = each-stop one says size m i place at x inv r h (e ∙ ap (λ (y : A). verdict_of (one y at)) eo) z
+    (o : A) (h : i < m) (eo : o ≡ says place) where
+  pub owner_stop : (f : Fault) → Err f ≡ verdict_of (one o at) → Err f ≡ x
+  owner_stop f e = each-stop one says size m i place at x inv f h (e ∙ ap (λ (y : A). verdict_of (one y at)) eo)
 
-  pub owner_on : r.number ≡ 0 → x ≡ verdict_of (each one (rows says size (place + size) (m - (i + 1))) r.at)
-  owner_on z = each_on one says size m i place at x inv r h (e ∙ ap (λ (y : A). verdict_of (one y at)) eo) z
+  pub owner_on : (next : ℕ) → Ok next ≡ verdict_of (one o at) → x ≡ verdict_of (each one (rows says size (place + size) (m - (i + 1))) next)
+  owner_on next e = each_on one says size m i place at x inv next h (e ∙ ap (λ (y : A). verdict_of (one y at)) eo)

@@ -1,3 +1,7 @@
 pub mod Laws
 pub mod Chain
 pub mod Flat
+pub mod RecordLaws
+pub mod ByteSums
+pub mod Numbers
+pub mod KindLaws

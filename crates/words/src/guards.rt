@@ -8,7 +8,7 @@ pub fn guard_ok(g: u8) -> bool
     (g <= 63) | (g == 255)
 }
 
-// An ignore bin has no guard.
+// An ignore bin has no guard. The kind is its byte, which is not tested yet.
 pub fn bin_guard_ok(kind: u8, g: u8) -> bool
     ensures { result ≡ bin_guard_ok kind g }
 {

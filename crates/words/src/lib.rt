@@ -2,6 +2,10 @@
 #![tactic(auto)]
 
 pub mod bytes;
+pub mod choices;
 pub mod counts;
 pub mod guards;
+pub mod kinds;
+pub mod records;
+pub mod sums;
 pub mod verdicts;

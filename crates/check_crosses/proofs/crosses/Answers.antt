@@ -1,22 +1,29 @@
+use Rattle.std.proofs.Common.{arith, rules, ◌∙◌}
+use Rattle.words.proofs.Laws.{handed}
 use Rattle.check_crosses.proofs.Sections.{heads_room, heads_ok, bins-room, heads_refused, bins-refused, all_read}
-use native.Mathlib.Omega.{arith}
-use borrow.Author.Rules.{rules}
 use Rattle.check_crosses.proofs.crosses.Goals as goal
 
-pub returns-then-a-ne0 : goal.returns-then-a-ne0
-returns-then-a-ne0 c = heads_refused c.args.t.now c.args.points c.args.np _ c.args.at _ c.cross_section-a.ensures c.if-a-ne0.true
+pub returns-in_err-ninth : goal.returns-in_err-ninth
+returns-in_err-ninth c = handed _ _ c.from_residual.ensures ∙ heads_refused c.args.t.now c.args.points.at c.args.points.count _ c.args.at _ c.in_err-ninth.ensures
 
-pub cross_bin_section-b-requires : goal.cross_bin_section-b-requires
-cross_bin_section-b-requires c = let h = heads_room c.args.t.now _ c.args.at _ _ c.cross_section-a.ensures c.if-a-ne0.false c.read2-n.ensures in (omega arith, search rules, h.1)
+pub cross_bin_section-requires : goal.cross_bin_section-requires
+cross_bin_section-requires c = let h = heads_room c.args.t.now _ c.args.at _ _ c.in_ok-ninth.ensures c.read2.ensures in (omega arith, search rules, h.1)
 
-pub returns-then-b-ne0 : goal.returns-then-b-ne0
-returns-then-b-ne0 c = bins-refused c.args.t.now c.args.points c.args.np _ c.args.at _ c.cross_section-a.ensures c.if-a-ne0.false _ c.read2-n.ensures _ c.cross_bin_section-b.ensures c.if-b-ne0.true
+pub returns-in_err-tenth : goal.returns-in_err-tenth
+returns-in_err-tenth c = handed _ _ c.from_residual-in_err-tenth.ensures ∙ bins-refused c.args.t.now c.args.points.at c.args.points.count _ c.args.at _ _ c.in_ok-ninth.ensures c.read2.ensures _ c.in_err-tenth.ensures
 
 pub overflow_add-ninth : goal.overflow_add-ninth
-overflow_add-ninth c = let h = bins-room _ _ _ _ _ c.cross_bin_section-b.ensures c.if-b-ne0.false in omega arith
+overflow_add-ninth c = let h = bins-room _ _ _ _ _ c.in_ok-tenth.ensures in omega arith
 
-pub token_section-requires : goal.token_section-requires
-token_section-requires c = let p = c.requires in let h = heads_room c.args.t.now _ c.args.at _ _ c.cross_section-a.ensures c.if-a-ne0.false c.read2-n.ensures in let g = bins-room _ _ _ _ _ c.cross_bin_section-b.ensures c.if-b-ne0.false in record { at_in_bounds = (g.1, p.at_in_bounds.1, p.at_in_bounds.2, p.at_in_bounds.4, h.1, g.0); all_wide = (p.all_wide, heads_ok c.args.t.now _ c.args.at _ _ c.cross_section-a.ensures c.if-a-ne0.false c.read2-n.ensures) }
+pub token_section-requires-clause-at_in_bounds : goal.token_section-requires-clause-at_in_bounds
+token_section-requires-clause-at_in_bounds c =
+    let p = c.requires.at_in_bounds in
+    let h = heads_room c.args.t.now _ c.args.at _ _ c.in_ok-ninth.ensures c.read2.ensures in
+    let g = bins-room _ _ _ _ _ c.in_ok-tenth.ensures in
+    (g.1, p.1, p.2, p.4, h.1, g.0)
+
+pub token_section-requires-clause-all_wide : goal.token_section-requires-clause-all_wide
+token_section-requires-clause-all_wide c = (c.requires.all_wide, heads_ok c.args.t.now _ c.args.at _ _ c.in_ok-ninth.ensures c.read2.ensures)
 
 pub returns : goal.returns
-returns c = all_read c.args.t.now c.args.points c.args.np _ c.args.at _ c.cross_section-a.ensures c.if-a-ne0.false _ c.read2-n.ensures _ c.cross_bin_section-b.ensures _ c.if-b-ne0.false c.token_section.ensures
+returns c = all_read c.args.t.now c.args.points.at c.args.points.count _ c.args.at _ _ c.in_ok-ninth.ensures c.read2.ensures _ _ c.in_ok-tenth.ensures c.token_section.ensures

@@ -1,8 +1,13 @@
-use mathlib.Core.Path.{ap}
-use Rattle.table.specs.declared.answer.Measure.{Measure}
+use Rattle.table.proofs.MeasureLaws.{measured-sound, measured-fault}
+use mathlib.Core.Path.{◌∙◌}
 use Rattle.fluviquen.proofs.fluviquen_measure.Goals as goal
 
-pub returns : goal.returns
-returns c =
-    let e = c.measure-m.ensures in
-    record { value = ap (λ (m : Measure). m.number) e; words_after = ap (λ (m : Measure). m.words) e; illegal_places_after = ap (λ (m : Measure). m.illegal_places) e; place_after = ap (λ (m : Measure). m.place) e }
+pub returns-in-Ok : goal.returns-in-Ok
+returns-in-Ok c =
+    let e = measured-sound _ _ c.in-Ok.ensures in
+    record { value = e.0; words_after = e.1; illegal_places_after = e.2; place_after = e.3 }
+
+pub returns-in-Err : goal.returns-in-Err
+returns-in-Err c =
+    let e = measured-fault _ _ c.in-Err.ensures in
+    record { value = c.from.ensures ∙ e.0; words_after = e.1; illegal_places_after = e.2; place_after = e.3 }

@@ -1,7 +1,9 @@
-use mathlib.Core.Path.{ap}
+use mathlib.Core.Path.{ap, ◌∙◌}
 use Rattle.fluviquen.specs.Answers.{count_in}
+use Rattle.fluviquen.proofs.AnswerLaws.{count-told}
 use Rattle.fluviquen.proofs.fluviquen_place_count.Goals as goal
 
 pub returns : goal.returns
 returns c =
-    record { value = c.place_count-a.ensures.number_value; count_after = ap count_in c.place_count-a.ensures.count_value }
+    let a = c.place_count-answer in
+    record { value = c.number.ensures ∙ a.ensures.number_value; count_after = c.unwrap_or.ensures ∙ count-told a.result ∙ ap count_in a.ensures.count_value }

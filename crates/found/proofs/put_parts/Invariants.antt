@@ -9,7 +9,4 @@ use Rattle.found.proofs.put_parts.Given as goal
 abbrev pub invariant-loop-i : goal.invariant-loop-i
 invariant-loop-i l =
     let f = guard_at l.t l.sample l.origins l.bins in
-    (l.i ≤ l.n) × (l.n ≡ length l.rows / 7) × Written 1 (new_parts f 0 l.value (plan_rows_at l.rows 0 (length l.rows / 7))) l.initial.found l.at l.found (new_parts f l.next l.value (plan_rows_at l.rows (0 + 7 * l.i) (l.n - l.i)))
-
-abbrev pub decreases-loop-i : goal.decreases-loop-i
-decreases-loop-i l = l.n - l.i
+    (l.i ≤ l.n) × (l.n ≡ length l.rows / 7) × Written 1 (new_parts f 0 l.value (plan_rows_at l.rows 0 (length l.rows / 7))) l.initial.found l.c.at l.found (new_parts f l.c.next l.value (plan_rows_at l.rows (0 + 7 * l.i) (l.n - l.i)))

@@ -1,7 +1,6 @@
 use mathlib.Core.Path.{sym, ◌∙◌}
 use Rattle.layout.proofs.PlaceLaws.{point-count-first}
-use borrow.Author.Rules.{rules}
 use Rattle.layout.proofs.point_count.Goals as goal
 
-pub returns : goal.returns
-returns c = record { value = c.read2.ensures ∙ sym (point-count-first c.args.t.now); upper_bound = search rules }
+pub returns-clause-value : goal.returns-clause-value
+returns-clause-value c = c.from.ensures ∙ c.read2.ensures ∙ sym (point-count-first c.args.t.now)

@@ -3,5 +3,6 @@ use Rattle.layout.proofs.transition_section.Goals as goal
 
 pub returns : goal.returns
 returns c =
-    let laid = transitions_laid c.section_at-a.ensures c.next-b.ensures c.next-c.ensures c.next.ensures in
+    let f = c.first_sections.ensures in
+    let laid = transitions_laid f.points f.bins f.ranges c.next.ensures in
     record { value = laid.0; at_bound = laid.1 }

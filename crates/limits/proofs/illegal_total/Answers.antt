@@ -5,4 +5,4 @@ pub returns : goal.returns
 returns c =
     let a = c.args in
     let pre = c.requires in
-    illegal_sum a.t.now a.l pre.readable.1 pre.readable.0 _ _ _ pre.values_value.0 c.count_bytes-transitions.ensures.0 pre.values_value.2
+    illegal_sum a.t.now a.l pre.readable.1 pre.readable.0 _ _ _ pre.values_value.0 c.count_kind-transitions.ensures.0 pre.values_value.2

@@ -13,17 +13,17 @@ pub overflow_cast-out : goal.overflow_cast-out
 overflow_cast-out c =
     let a = c.args in
     let p = c.requires in
-    omega (arith, c.put_of_kind-c.ensures.0, places-few (of_kind 2) 0 (take a.n a.kinds.now), length-take a.n a.kinds.now, p.2)
+    omega (arith, c.put_illegals-c.ensures.count, places-few (of_kind 2) 0 (take a.n a.kinds.now), length-take a.n a.kinds.now, p.2)
 
 pub returns : goal.returns
 returns c =
     let a = c.args in
     let p = c.requires in
-    let q = c.put_of_kind-c in
+    let q = c.put_illegals-c in
     let out = a.out.now in
     let those = places_from (of_kind 2) 0 (take a.n a.kinds.now) in (
-      q.ensures.0,
-      ap (λ (l : List ℕ). set l 0 q.result) (back-put 1 out (omega (arith, p.1)) q.new.out those q.ensures.1)
+      q.ensures.count,
+      ap (λ (l : List ℕ). set l 0 q.result) (back-put 1 out (omega (arith, p.1)) q.new.out those q.ensures.places)
           ∙ set-put 0 q.result those out (omega (arith, p.1))
-          ∙ ap (λ (m : ℕ). put 0 (m ∷ those) out) q.ensures.0,
+          ∙ ap (λ (m : ℕ). put 0 (m ∷ those) out) q.ensures.count,
     )

@@ -1,19 +1,7 @@
-use mathlib.Core.Path.{ap₂}
-use Prim.Native.Nat.{◌+◌}
-use native.Mathlib.Omega.{arith}
-use lib.Bits.{bit_or}
-use Rattle.operators.specs.Operators.{or_of}
-use Rattle.operators.proofs.Rewriting.{mapped-start, mapped_turn, mapped_says}
+use Rattle.std.proofs.Common.{rules}
+use Rattle.operators.specs.Operators.{Says, or_of}
 use Rattle.operators.proofs.or_into.Goals as goal
 
-pub loop-x-init : goal.loop-x-init
-loop-x-init c = (omega arith, mapped-start _ _)
-
-pub loop-x-preserved : goal.loop-x-preserved
-unfolding or_of
-loop-x-preserved c =
-    let l = c.loop-x in
-    (omega arith, mapped_turn _ l.x _ l.stack l.invariant.1 _ (ap₂ bit_or (l.invariant.1.left l.x (omega arith)) (l.invariant.1.left (c.args.n + l.x) (omega arith))) (omega arith))
-
 pub returns : goal.returns
-returns c = mapped_says _ _ _ _ c.loop-x.invariant.1 _ (omega arith)
+unfolding Says or_of
+returns c x h = search (rules, c.combine.ensures x h)

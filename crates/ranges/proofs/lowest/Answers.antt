@@ -1,10 +1,15 @@
+use Rattle.std.proofs.Common.{arith, rules}
 use Rattle.ranges.specs.Types.{lowest_of}
-use Rattle.std.proofs.Common.{rules}
+use Rattle.ranges.proofs.RangeLaws.{power_half}
 use Rattle.ranges.proofs.lowest.Goals as goal
 
-pub returns-then-signed : goal.returns-then-signed
-returns-then-signed c = ((cc), search rules)
+pub overflow_sub-result : goal.overflow_sub-result
+overflow_sub-result c = omega (arith, power_half c.args.p.width c.args.p.wide.1)
 
-pub returns-else-signed : goal.returns-else-signed
+pub returns-then-p : goal.returns-then-p
 unfolding lowest_of
-returns-else-signed c = ((cc), search rules)
+returns-then-p c = search rules
+
+pub returns-else-p : goal.returns-else-p
+unfolding lowest_of
+returns-else-p c = search rules

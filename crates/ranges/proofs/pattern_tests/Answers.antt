@@ -1,14 +1,17 @@
-use Rattle.std.proofs.Common.{refl}
-use Rattle.words.specs.Verdicts.{verdict_in}
-use Rattle.words.proofs.Laws.{passing, passed}
+use mathlib.Core.Path.{◌∙◌}
 use Rattle.model.specs.Format.{pattern_tests}
+use Rattle.words.proofs.Laws.{tests, handed}
 use Rattle.ranges.specs.Types.{power_of}
 use Rattle.ranges.proofs.pattern_tests.Goals as goal
 
-pub returns-then-bits-mask : goal.returns-then-bits-mask
-unfolding pattern_tests power_of passing
-returns-then-bits-mask c = passed _ _ _ _ refl c.if-bits-mask.true (rw c.power-all.ensures.0)
+pub returns-in_err-test : goal.returns-in_err-test
+unfolding pattern_tests power_of
+returns-in_err-test c = handed _ _ c.from_residual.ensures ∙ search tests
+
+pub returns-in_err-test-2 : goal.returns-in_err-test-2
+unfolding pattern_tests power_of
+returns-in_err-test-2 c = handed _ _ c.from_residual-in_err-test-2.ensures ∙ search tests
 
 pub returns : goal.returns
-unfolding verdict_in pattern_tests power_of
-returns c = rw (c.test.ensures, c.test-r2.ensures, c.test-r3.ensures, c.power-all.ensures.0)
+unfolding pattern_tests power_of
+returns c = search tests

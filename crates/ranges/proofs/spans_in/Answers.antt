@@ -13,12 +13,6 @@ returns-then-not-span_in c = search spanss
 pub overflow_add-at : goal.overflow_add-at
 overflow_add-at c = search spanss
 
-pub overflow_add-i : goal.overflow_add-i
-overflow_add-i c = search spanss
-
-pub loop-i-smaller : goal.loop-i-smaller
-loop-i-smaller c = search spanss
-
 pub loop-i-preserved : goal.loop-i-preserved
 loop-i-preserved c = search spanss
 

@@ -1,14 +1,17 @@
-use Rattle.std.proofs.Common.{refl}
-use Rattle.words.specs.Verdicts.{verdict_in}
-use Rattle.words.proofs.Laws.{passing, passed}
+use mathlib.Core.Path.{◌∙◌}
 use Rattle.model.specs.Format.{value_tests}
+use Rattle.words.proofs.Laws.{tests, handed}
 use Rattle.ranges.specs.Types.{end_tests, limits_of, lowest_of, power_of, value_at}
 use Rattle.ranges.proofs.value_tests.Goals as goal
 
-pub returns-then-all_pass : goal.returns-then-all_pass
-unfolding value_tests end_tests limits_of lowest_of power_of value_at passing
-returns-then-all_pass c = passed _ _ _ _ refl c.if-all_pass.true (rw (c.all_pass.ensures, c.end_tests-e.ensures, c.limits_of-l.ensures))
+pub returns-in_err-test : goal.returns-in_err-test
+unfolding value_tests end_tests limits_of lowest_of power_of value_at
+returns-in_err-test c = handed _ _ c.from_residual.ensures ∙ search tests
+
+pub returns-in_err-test-2 : goal.returns-in_err-test-2
+unfolding value_tests end_tests limits_of lowest_of power_of value_at
+returns-in_err-test-2 c = handed _ _ c.from_residual-in_err-test-2.ensures ∙ search tests
 
 pub returns : goal.returns
-unfolding verdict_in value_tests end_tests limits_of lowest_of power_of value_at
-returns c = rw (c.test.ensures, c.test-r2.ensures, c.test-r3.ensures, c.end_tests-e.ensures, c.limits_of-l.ensures)
+unfolding value_tests end_tests limits_of lowest_of power_of value_at
+returns c = search tests

@@ -4,11 +4,11 @@ use Rattle.reader.proofs.Laws.{records-small}
 use Rattle.reader.proofs.part_at.Goals as goal
 
 pub overflow_mul-to : goal.overflow_mul-to
-overflow_mul-to c = omega (arith, records-small c.read2-count.result c.args.size (omega arith) (omega arith))
+overflow_mul-to c = omega (arith, records-small c.from-count.result c.args.size (omega arith) (omega arith))
 
 pub overflow_add-to : goal.overflow_add-to
-overflow_add-to c = omega (arith, records-small c.read2-count.result c.args.size (omega arith) (omega arith))
+overflow_add-to c = omega (arith, records-small c.from-count.result c.args.size (omega arith) (omega arith))
 
 pub returns : goal.returns
 unfolding part_at
-returns c = rw (← c.read2-count.ensures)
+returns c = rw (← c.read2.ensures, ← c.from-count.ensures)

@@ -8,6 +8,3 @@ use Rattle.refusals.proofs.counts_hold.Given as goal
 abbrev pub invariant-loop-i : goal.invariant-loop-i
 invariant-loop-i l =
     (2 ≤ l.i) × (l.i ≤ l.end) × (all (at_most l.samples) (take (l.end - l.i) (drop l.i l.register)) ≡ all (at_most l.samples) (take (l.end - 2) (drop 2 l.register)))
-
-abbrev pub decreases-loop-i : goal.decreases-loop-i
-decreases-loop-i l = l.end - l.i

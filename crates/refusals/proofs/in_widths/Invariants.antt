@@ -6,6 +6,3 @@ use Rattle.refusals.proofs.in_widths.Given as goal
 
 abbrev pub invariant-loop-p : goal.invariant-loop-p
 invariant-loop-p l = (l.p ≤ l.points) × (all (in_width_at l.t l.sample) (up_from l.p (l.points - l.p)) ≡ in_widths_at l.t l.sample l.points)
-
-abbrev pub decreases-loop-p : goal.decreases-loop-p
-decreases-loop-p l = l.points - l.p

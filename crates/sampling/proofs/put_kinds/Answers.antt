@@ -29,7 +29,7 @@ returns c =
         counts = counts_stand s _ k.new.counts c.requires.0 k.ensures (omega arith);
         starts_sized = omega (arith, p.auto.starts);
         counts_sized = omega (arith, k.auto.counts);
-        points = points-total s c.requires.0 _ c.point_count-points.ensures.value;
+        points = points-total s c.requires.0 _ c.point_count.ensures.value;
         counters = omega (arith, x.ensures.value, p.ensures.value, all-count t);
       },
       kinds_joined t _ p.ensures.value c.args.kinds.now p.new.kinds x.new.kinds (omega (arith, all-count t, c.requires.1.1, p.ensures.value)) p.ensures.kinds_after.0 x.ensures.kinds_after,

@@ -4,7 +4,7 @@ use Rattle.sequences.proofs.Turns.{complete-turn, complete-end}
 use Rattle.sequences.proofs.complete.Goals as goal
 
 pub loop-j-init : goal.loop-j-init
-loop-j-init c = rw c.less_one-j.ensures
+loop-j-init c = rw c.saturating_sub-j.ensures
 
 pub loop-j-preserved : goal.loop-j-preserved
 loop-j-preserved c =

@@ -1,6 +1,5 @@
 -- `sequences::complete` meets its contract. Assumes nothing.
 use mathlib.Core.Path.{◌≡◌}
-use Prim.Native.Nat.{◌-◌}
 use lib.Bits.{bit_or}
 use lib.ListN.{take, drop}
 use Rattle.model.specs.Lists.{or_all}
@@ -10,6 +9,3 @@ use Rattle.sequences.proofs.complete.Given as goal
 abbrev pub invariant-loop-j : goal.invariant-loop-j
 invariant-loop-j l =
     bit_or l.out (or_all (drop l.j (take l.most (drop l.at l.words)))) ≡ complete_from l.least (take l.most (drop l.at l.words))
-
-abbrev pub decreases-loop-j : goal.decreases-loop-j
-decreases-loop-j l = l.most - l.j

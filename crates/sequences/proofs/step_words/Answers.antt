@@ -16,7 +16,7 @@ pub loop-j-preserved : goal.loop-j-preserved
 loop-j-preserved c =
     let l = c.loop-j in
     let a = c.args in
-    let g = c.gated in (
+    let g = c.pick in (
       simp length-set l.invariant.0,
       words_turn a.old.now l.words a.at a.most l.j l.next g.result a.inside (omega arith) (omega arith) (omega arith) g.ensures ∙ l.invariant.1,
     )

@@ -10,6 +10,3 @@ abbrev pub invariant-loop-j : goal.invariant-loop-j
 invariant-loop-j l =
     (length l.words ≡ length l.initial.words)
     × (put (l.at + l.j) (step_words l.inside l.next (take (l.most - l.j) (drop (l.at + l.j) l.old))) l.words ≡ put l.at (step_words l.inside l.enter (take l.most (drop l.at l.old))) l.initial.words)
-
-abbrev pub decreases-loop-j : goal.decreases-loop-j
-decreases-loop-j l = l.most - l.j

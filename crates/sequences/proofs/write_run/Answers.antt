@@ -7,12 +7,12 @@ use Rattle.sequences.proofs.write_run.Goals as goal
 pub returns-then-admitted-eq0 : goal.returns-then-admitted-eq0
 returns-then-admitted-eq0 c = λ ss r e d.
     let a = c.args in
-    let cleared = c.clear in
-    none_stored ss r a.admitted a.words.now cleared.new.words
+    let cleared = c.fill in
+    none_stored ss r a.admitted a.words.now cleared.new.self
     (words_length a.shape.now ss (length a.words.now) e c.requires.words_len)
     d
     c.if-admitted-eq0.true
-    cleared.ensures
+    (cleared.ensures.after (λ y e. e))
 
 pub returns : goal.returns
 returns c = λ ss r e d.

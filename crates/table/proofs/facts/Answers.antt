@@ -1,14 +1,11 @@
-use Rattle.table.proofs.MeasureLaws.{few_of, facts-whole, facts-refused}
+use Rattle.std.proofs.Common.{Result, Ok, Err, ◌≡◌}
+use Rattle.words.specs.declared.verdicts.Fault.{Fault}
+use Rattle.table.specs.declared.answer.Facts.{Facts}
+use Rattle.table.specs.Check.{facts_of, ExaminedOf}
+use Rattle.table.proofs.MeasureLaws.{few_of, examined-facts}
 use Rattle.table.proofs.facts.Goals as goal
-
-pub returns-then-number-ne0 : goal.returns-then-number-ne0
-returns-then-number-ne0 c =
-    let e = c.examine-e.ensures in
-    let f = facts-refused _ _ e.verdict c.if-number-ne0.true in
-    record { value = f; few = few_of _ _ f }
 
 pub returns : goal.returns
 returns c =
-    let e = c.examine-e.ensures in
-    let f = facts-whole _ _ e.verdict c.if-number-ne0.false _ (e.tally c.if-number-ne0.false) _ c.read2-points.ensures in
+    let f = examined-facts _ _ c.examine.ensures in
     record { value = f; few = few_of _ _ f }

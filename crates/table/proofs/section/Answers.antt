@@ -2,8 +2,8 @@ use mathlib.Core.Path.{◌∙◌}
 use Rattle.table.proofs.MeasureLaws.{section-whole, section-refused}
 use Rattle.table.proofs.section.Goals as goal
 
-pub returns-then-v-ne0 : goal.returns-then-v-ne0
-returns-then-v-ne0 c = section-refused _ _ c.check-v.ensures c.if-v-ne0.true _
+pub returns-in-Ok : goal.returns-in-Ok
+returns-in-Ok c = c.section_bytes.ensures ∙ section-whole _ _ c.in-Ok.ensures _
 
-pub returns : goal.returns
-returns c = c.section_bytes.ensures ∙ section-whole _ _ c.check-v.ensures c.if-v-ne0.false _
+pub returns-in-Err : goal.returns-in-Err
+returns-in-Err c = section-refused _ _ c.in-Err.ensures _

@@ -1,13 +1,11 @@
-use native.Mathlib.Omega.{arith}
-use Rattle.reader.proofs.Laws.{part-ordered}
+use mathlib.Core.Path.{sym, subst}
+use Rattle.words.proofs.Laws.{handed}
+use Rattle.table.specs.Check.{SectionAt}
 use Rattle.table.proofs.MeasureLaws.{placed-whole, placed-refused}
 use Rattle.table.proofs.section_place.Goals as goal
 
-pub returns-then-refusal-ne0 : goal.returns-then-refusal-ne0
-returns-then-refusal-ne0 c = placed-refused _ _ c.check-v.ensures c.if-refusal-ne0.true _
-
-pub overflow_sub-result : goal.overflow_sub-result
-overflow_sub-result c = omega (arith, part-ordered _ _ _ c.section_part-p.ensures)
+pub returns-in_err-check : goal.returns-in_err-check
+returns-in_err-check c = subst (SectionAt c.args.table.now c.args.number) (sym (handed _ _ c.from_residual.ensures)) (placed-refused _ _ c.in_err-check.ensures _)
 
 pub returns : goal.returns
-returns c = placed-whole _ _ c.check-v.ensures c.if-refusal-ne0.false _ _ c.section_part-p.ensures
+returns c = placed-whole _ _ c.in_ok-check.ensures _ _ c.section_part.ensures

@@ -8,6 +8,3 @@ use Rattle.check_crosses.proofs.bins.cross_bins.Given as goal
 
 abbrev pub invariant-loop-i : goal.invariant-loop-i
 invariant-loop-i l = (l.i ≤ l.n) × (l.at ≤ length l.t) × (verdict_of (times l.n (read_cross_bin l.t []) l.start) ≡ verdict_of (times (l.n - l.i) (read_cross_bin l.t []) l.at))
-
-abbrev pub decreases-loop-i : goal.decreases-loop-i
-decreases-loop-i l = l.n - l.i

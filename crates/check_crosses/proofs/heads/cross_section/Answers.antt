@@ -1,14 +1,13 @@
+use mathlib.Core.Path.{◌∙◌}
 use Rattle.model.specs.Format.{read_cross_section}
-use Rattle.words.proofs.Chain.{chain, rooms}
+use Rattle.words.proofs.Chain.{chain, record_on}
+use Rattle.words.proofs.Laws.{handed}
 use Rattle.check_crosses.proofs.heads.cross_section.Goals as goal
 
-pub returns-then-c-ne0 : goal.returns-then-c-ne0
+pub returns-in_err-start : goal.returns-in_err-start
 unfolding read_cross_section
-returns-then-c-ne0 c = search chain
-
-pub crosses_of-requires : goal.crosses_of-requires
-crosses_of-requires c = search rooms
+returns-in_err-start c = handed _ _ c.from_residual.ensures ∙ search chain
 
 pub returns : goal.returns
 unfolding read_cross_section
-returns c = search chain
+returns c = record_on _ 2 _ _ _ _ _ _ _ c.in_ok-start.ensures c.read2-n.ensures c.crosses_of.ensures

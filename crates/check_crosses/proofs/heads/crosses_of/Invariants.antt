@@ -7,6 +7,3 @@ use Rattle.check_crosses.proofs.heads.crosses_of.Given as goal
 
 abbrev pub invariant-loop-i : goal.invariant-loop-i
 invariant-loop-i l = (l.i ≤ l.n) × (l.at ≤ length l.t) × (verdict_of (times l.n (read_cross l.t l.points) l.start) ≡ verdict_of (times (l.n - l.i) (read_cross l.t l.points) l.at))
-
-abbrev pub decreases-loop-i : goal.decreases-loop-i
-decreases-loop-i l = l.n - l.i

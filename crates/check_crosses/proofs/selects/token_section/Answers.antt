@@ -1,16 +1,16 @@
+use Rattle.std.proofs.Common.{arith, ◌∙◌}
+use Rattle.words.proofs.Laws.{record_in, handed}
 use Rattle.check_crosses.proofs.SelectLaws.{tokens_stop, tokens_on}
-use native.Mathlib.Omega.{arith}
-use Rattle.words.proofs.Laws.{record_in}
 use Rattle.check_crosses.proofs.selects.token_section.Goals as goal
 
-pub returns-then-r-ne0 : goal.returns-then-r-ne0
-returns-then-r-ne0 c = tokens_stop c.args.t.now _ _ c.args.c c.args.b c.args.n _ _ _ _ c.owned_bins-m.ensures.0 c.owned_tokens-sum.ensures c.owned_count-r.ensures c.if-r-ne0.true
+pub returns-in_err-start : goal.returns-in_err-start
+returns-in_err-start c = handed _ _ c.from_residual.ensures ∙ tokens_stop c.args.t.now _ _ c.args.crosses.at c.args.b c.args.crosses.count _ _ _ c.owned_bins.ensures.0 c.owned_tokens-sum.ensures _ c.in_err-start.ensures
 
-pub all_selects-requires : goal.all_selects-requires
-all_selects-requires c =
-    let h = record_in _ 2 _ _ _ _ c.owned_count-r.ensures c.if-r-ne0.false in
+pub all_selects-requires-clause-start_in_bounds : goal.all_selects-requires-clause-start_in_bounds
+all_selects-requires-clause-start_in_bounds c =
+    let h = record_in _ 2 _ _ _ _ c.in_ok-start.ensures in
     let p = c.requires in
-    record { start_in_bounds = (h, p.at_in_bounds.1, p.at_in_bounds.2, omega arith, p.at_in_bounds.4, p.at_in_bounds.5); all_wide = p.all_wide }
+    (h, p.at_in_bounds.1, p.at_in_bounds.2, omega arith, p.at_in_bounds.4, p.at_in_bounds.5)
 
 pub returns : goal.returns
-returns c = tokens_on c.args.t.now _ _ c.args.c c.args.b c.args.n _ _ _ _ c.owned_bins-m.ensures.0 c.owned_tokens-sum.ensures c.owned_count-r.ensures _ c.if-r-ne0.false c.all_selects.ensures
+returns c = tokens_on c.args.t.now _ _ c.args.crosses.at c.args.b c.args.crosses.count _ _ _ c.owned_bins.ensures.0 c.owned_tokens-sum.ensures _ _ c.in_ok-start.ensures c.all_selects.ensures

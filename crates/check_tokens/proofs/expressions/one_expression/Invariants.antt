@@ -7,6 +7,3 @@ use Rattle.check_tokens.proofs.expressions.one_expression.Given as goal
 
 abbrev pub invariant-loop-i : goal.invariant-loop-i
 invariant-loop-i l = (l.i ≤ l.n) × (l.at ≡ l.start + 20 * l.i) × (l.wanted ≤ l.i + 1) × (found 1 (expressions (rows (token_record l.t) 20 l.start l.n)) ≡ found l.wanted (expressions (rows (token_record l.t) 20 l.at (l.n - l.i))))
-
-abbrev pub decreases-loop-i : goal.decreases-loop-i
-decreases-loop-i l = l.n - l.i

@@ -1,8 +1,14 @@
-use Rattle.check_tokens.proofs.TokenLaws.{verdict-token_rules, token-passed}
+use mathlib.Core.Path.{◌∙◌}
+use Rattle.model.specs.Format.{token_rules}
+use Rattle.words.proofs.Laws.{handed}
+use Rattle.check_tokens.specs.Tokens.{value_fields}
+use Rattle.check_tokens.proofs.TokenLaws.{token-tests}
 use Rattle.check_tokens.proofs.tokens.token_rules.Goals as goal
 
-pub returns-then-known-placed : goal.returns-then-known-placed
-returns-then-known-placed c = token-passed _ _ _ _ _ _ _ _ _ _ _ _ (rw (c.value_fields-values.ensures, c.test-last.ensures, c.sound.ensures)) c.if-known-placed.true (rw c.pick-placed.ensures)
+pub returns-in_err-value_fields : goal.returns-in_err-value_fields
+unfolding token_rules value_fields
+returns-in_err-value_fields c = handed _ _ c.from_residual-in_err-value_fields.ensures ∙ search token-tests
 
 pub returns : goal.returns
-returns c = rw (verdict-token_rules, c.test.ensures, c.choose.ensures, c.test-b.ensures, c.test-a.ensures, c.test-bin.ensures, c.value_fields-values.ensures, c.test-last.ensures, c.sound.ensures)
+unfolding token_rules value_fields
+returns c = search token-tests

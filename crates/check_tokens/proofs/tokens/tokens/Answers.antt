@@ -1,28 +1,14 @@
+use mathlib.Core.Path.{◌∙◌}
 use Rattle.model.specs.Format.{read_token}
-use Rattle.words.proofs.Laws.{timess}
+use Rattle.words.proofs.Laws.{timess, handed}
 use Rattle.check_tokens.proofs.tokens.tokens.Goals as goal
 
-pub loop-i-init : goal.loop-i-init
-loop-i-init c = search timess
-
-pub token_fault-r-requires : goal.token_fault-r-requires
-token_fault-r-requires c = search timess
-
-pub returns-then-r-ne0 : goal.returns-then-r-ne0
-returns-then-r-ne0 c = search timess
-
-pub overflow_add-i : goal.overflow_add-i
-overflow_add-i c = search timess
-
-pub loop-i-smaller : goal.loop-i-smaller
-loop-i-smaller c = search timess
+pub returns-in_err-at : goal.returns-in_err-at
+returns-in_err-at c = handed _ _ c.from_residual.ensures ∙ search timess
 
 pub loop-i-preserved : goal.loop-i-preserved
 unfolding read_token
 loop-i-preserved c = search timess
-
-pub sound-requires : goal.sound-requires
-sound-requires c = search timess
 
 pub returns : goal.returns
 returns c = search timess

@@ -8,6 +8,3 @@ use Rattle.check_tokens.proofs.tokens.tokens.Given as goal
 
 abbrev pub invariant-loop-i : goal.invariant-loop-i
 invariant-loop-i l = (l.i ≤ l.n) × (l.at ≤ length l.t) × (verdict_of (times l.n (read_token l.t (points_at l.t l.points.at l.points.count) (rows (bin_head l.t) 8 l.bins.at l.bins.count) (cross_points l.t l.c)) l.start) ≡ verdict_of (times (l.n - l.i) (read_token l.t (points_at l.t l.points.at l.points.count) (rows (bin_head l.t) 8 l.bins.at l.bins.count) (cross_points l.t l.c)) l.at))
-
-abbrev pub decreases-loop-i : goal.decreases-loop-i
-decreases-loop-i l = l.n - l.i

@@ -8,12 +8,9 @@ use Rattle.check_transitions.proofs.step_ranges.ranges_each.Given as goal
 
 abbrev pub invariant-loop-i : goal.invariant-loop-i
 invariant-loop-i l =
-    (l.i ≤ l.n)
+    (l.i ≤ l.fn.bins.count)
     × (l.at ≤ length l.t)
-    × (l.bin ≡ l.b + 4 * l.i)
+    × (l.bin ≡ l.fn.bins.at + 4 * l.i)
     × (l.sequence ≤ l.q + 255 * l.i)
     × (l.step ≤ l.p + 195075 * l.i)
-    × (verdict_of (each (read_transition_ranges l.t (points_at l.t l.points.at l.points.count)) (transition_heads_at l.t l.b l.q l.p l.n) l.start) ≡ verdict_of (each (read_transition_ranges l.t (points_at l.t l.points.at l.points.count)) (transition_heads_at l.t l.bin l.sequence l.step (l.n - l.i)) l.at))
-
-abbrev pub decreases-loop-i : goal.decreases-loop-i
-decreases-loop-i l = l.n - l.i
+    × (verdict_of (each (read_transition_ranges l.t (points_at l.t l.points.at l.points.count)) (transition_heads_at l.t l.fn.bins.at l.q l.p l.fn.bins.count) l.start) ≡ verdict_of (each (read_transition_ranges l.t (points_at l.t l.points.at l.points.count)) (transition_heads_at l.t l.bin l.sequence l.step (l.fn.bins.count - l.i)) l.at))

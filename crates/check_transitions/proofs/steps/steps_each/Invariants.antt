@@ -8,6 +8,3 @@ use Rattle.check_transitions.proofs.steps.steps_each.Given as goal
 
 abbrev pub invariant-loop-i : goal.invariant-loop-i
 invariant-loop-i l = (l.i ≤ l.n) × (l.at ≤ length l.t) × (l.sequence ≤ l.q + l.i) × (verdict_of (each (read_steps l.t) (lengths_at l.t l.q l.n) l.start) ≡ verdict_of (each (read_steps l.t) (lengths_at l.t l.sequence (l.n - l.i)) l.at))
-
-abbrev pub decreases-loop-i : goal.decreases-loop-i
-decreases-loop-i l = l.n - l.i

@@ -1,14 +1,17 @@
-use Rattle.model.specs.Format.{read_transition_section}
-use Rattle.words.proofs.Chain.{chain}
+use Rattle.std.proofs.Common.{rules, ◌∙◌}
+use Rattle.model.specs.Format.{read_transition_section, read_transition}
+use Rattle.words.proofs.Laws.{handed}
+use Rattle.words.proofs.Chain.{chain, rooms, record_on}
+use Rattle.words.proofs.RecordLaws.{records_read}
 use Rattle.check_transitions.proofs.transitions.transition_section.Goals as goal
 
-pub returns-then-c-ne0 : goal.returns-then-c-ne0
+pub returns-in_err-start : goal.returns-in_err-start
 unfolding read_transition_section
-returns-then-c-ne0 c = search chain
+returns-in_err-start c = handed _ _ c.from_residual.ensures ∙ search chain
 
-pub transitions_of-requires : goal.transitions_of-requires
-transitions_of-requires c = search chain
+pub records-requires-clause-bounds : goal.records-requires-clause-bounds
+records-requires-clause-bounds c = search rooms
 
 pub returns : goal.returns
-unfolding read_transition_section
-returns c = search chain
+unfolding read_transition_section read_transition
+returns c = record_on _ _ _ _ _ _ _ _ _ c.in_ok-start.ensures c.read2-n.ensures (records_read _ _ _ _ _ _ _ c.records.ensures (search rules))

@@ -7,6 +7,3 @@ use Rattle.check_values.proofs.bins.has_default.Given as goal
 
 abbrev pub invariant-loop-k : goal.invariant-loop-k
 invariant-loop-k l = (l.k ≤ l.count) × (any (eqb l.p) (defaults_up_to l.t l.base l.count) ≡ any (eqb l.p) (defaults_up_to l.t l.base l.k))
-
-abbrev pub decreases-loop-k : goal.decreases-loop-k
-decreases-loop-k l = l.k

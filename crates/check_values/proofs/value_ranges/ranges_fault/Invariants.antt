@@ -7,7 +7,4 @@ use Rattle.model.specs.Raw.{rows, points_at}
 use Rattle.check_values.proofs.value_ranges.ranges_fault.Given as goal
 
 abbrev pub invariant-loop-i : goal.invariant-loop-i
-invariant-loop-i l = (l.i ≤ l.n) × (l.at ≤ length l.t) × (l.bin ≡ l.bins + 8 * l.i) × (verdict_of (each (read_bin_ranges l.t (points_at l.t l.points l.np)) (rows (bin_head l.t) 8 l.bins l.n) l.start) ≡ verdict_of (each (read_bin_ranges l.t (points_at l.t l.points l.np)) (rows (bin_head l.t) 8 l.bin (l.n - l.i)) l.at))
-
-abbrev pub decreases-loop-i : goal.decreases-loop-i
-decreases-loop-i l = l.n - l.i
+invariant-loop-i l = (l.i ≤ l.fn.bins.count) × (l.at ≤ length l.t) × (l.bin ≡ l.fn.bins.at + 8 * l.i) × (verdict_of (each (read_bin_ranges l.t (points_at l.t l.points.at l.points.count)) (rows (bin_head l.t) 8 l.fn.bins.at l.fn.bins.count) l.start) ≡ verdict_of (each (read_bin_ranges l.t (points_at l.t l.points.at l.points.count)) (rows (bin_head l.t) 8 l.bin (l.fn.bins.count - l.i)) l.at))

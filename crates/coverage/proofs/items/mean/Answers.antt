@@ -1,28 +1,55 @@
--- `coverage::items::mean` meets its contract. Assumes nothing.
-use mathlib.Core.Path.{ap, sym, subst, ◌∙◌}
-use Prim.Native.Nat.{ℕ, ◌+◌}
+use mathlib.Core.Path.{refl, ◌∙◌}
 use native.Mathlib.Omega.{arith}
-use Rattle.layout.specs.declared.Layout.{Layout}
-use Rattle.layout.specs.Places.{layout_of}
-use Rattle.coverage.specs.Items.{mean_from, Within}
-use Rattle.coverage.proofs.ItemLaws.{items_few, counted, mean_exact}
+use Rattle.model.specs.Figures.{item_count}
+use Rattle.model.specs.Format.{table_of}
+use Rattle.figures.proofs.Sums.{items_start, items-on, figure-done}
+use Rattle.coverage.specs.Items.{item_with, mean_of, Within}
+use Rattle.coverage.proofs.ItemLaws.{items_few, weight-own, own-count}
 use Rattle.coverage.proofs.items.mean.Goals as goal
 
-pub mean_at-requires : goal.mean_at-requires
-unfolding layout_of
-mean_at-requires c =
+pub loop-i-init : goal.loop-i-init
+loop-i-init c =
     let a = c.args in
-    let s = a.t.now in
-    let p = c.requires in
-    let l = c.layout_of-l in
-    let z = l.ensures.small in
-    let n = ap (λ (l : Layout). l.point_count + l.cross_count) l.ensures.value ∙ counted s p.0 in
-    record { p_bound = (z.points, z.point_count, z.crosses, z.cross_count, omega (arith, n, items_few s p.0)); in_bounds = (p.1, p.2, subst (λ (k : ℕ). Within k a.totals.now a.covered.now) (sym n) p.3) }
+    let t = table_of a.t.now in
+    let g = c.new-g in
+    (omega arith, omega (arith, g.ensures.1), g.ensures.2, items_start (item_with t a.tallies.now) (item_count t) g.result g.ensures.0)
+
+pub bounds-tallies-i : goal.bounds-tallies-i
+bounds-tallies-i c =
+    let s = c.args.t.now in
+    let r = c.records_of-r in
+    omega (arith, items_few s c.requires.0, own-count s c.requires.0 r.result r.ensures, c.count-n.ensures, c.requires.1)
+
+pub with_item-g-requires : goal.with_item-g-requires
+unfolding Within
+with_item-g-requires c =
+    let l = c.loop-i in
+    let s = c.args.t.now in
+    let r = c.records_of-r in
+    let n = own-count s c.requires.0 r.result r.ensures in
+    (omega (arith, items_few s c.requires.0, n, c.count-n.ensures, l.invariant.1), l.invariant.2, c.requires.2 l.i (omega (arith, n, c.count-n.ensures)))
+
+pub loop-i-preserved : goal.loop-i-preserved
+loop-i-preserved c =
+    let l = c.loop-i in
+    let s = c.args.t.now in
+    let ok = c.requires.0 in
+    let r = c.records_of-r in
+    let q = c.with_item-g in
+    let n = own-count s ok r.result r.ensures in (
+      omega (arith, n, c.count-n.ensures),
+      omega (arith, q.ensures.1, l.invariant.1),
+      q.ensures.2,
+      items-on (item_with (table_of s) c.args.tallies.now) (item_count (table_of s)) l.i l.g _ l.invariant.3 c.weight_at-w.result _ _ q.result (omega (arith, n, c.count-n.ensures)) (c.weight_at-w.ensures ∙ weight-own s ok r.result r.ensures l.i) refl refl q.ensures.0,
+    )
+
+pub figure-requires : goal.figure-requires
+figure-requires c = c.loop-i.invariant.2
 
 pub returns : goal.returns
-unfolding layout_of
+unfolding mean_of
 returns c =
-    let a = c.args in
-    let s = a.t.now in
-    c.mean_at.ensures ∙ ap (λ (l : Layout). mean_from s l.points l.point_count l.crosses l.cross_count a.totals.now a.covered.now) c.layout_of-l.ensures.value
-    ∙ mean_exact s c.requires.0 a.totals.now a.covered.now
+    let l = c.loop-i in
+    let s = c.args.t.now in
+    let r = c.records_of-r in
+    figure-done (item_with (table_of s) c.args.tallies.now) (item_count (table_of s)) l.i l.g l.invariant.3 (omega (arith, own-count s c.requires.0 r.result r.ensures, c.count-n.ensures)) c.figure.result c.figure.ensures

@@ -1,28 +1,39 @@
--- `coverage::items::put_leasts` meets its contract. Assumes nothing.
-use mathlib.Core.Path.{ap, ◌∙◌}
-use Prim.Native.Nat.{ℕ, ◌+◌}
-use mathlib.Core.List.{List}
+use mathlib.Core.Path.{refl, ◌∙◌}
 use native.Mathlib.Omega.{arith}
-use Rattle.layout.specs.declared.Layout.{Layout}
-use Rattle.layout.specs.Places.{layout_of}
-use Rattle.arrays.specs.Put.{put}
-use Rattle.coverage.specs.Items.{leasts_at}
-use Rattle.coverage.proofs.ItemLaws.{items_few, counted, leasts_exact}
+use native.Mathlib.Nat.{sub-zero}
+use lib.ListN.{length-set}
+use Rattle.model.specs.Figures.{item_count, at_least}
+use Rattle.model.specs.Format.{table_of}
+use Rattle.arrays.proofs.Written.{fill-turn, fill_end}
+use Rattle.coverage.specs.Items.{leasts_of}
+use Rattle.coverage.proofs.ItemLaws.{items_few, least-own, own-count}
 use Rattle.coverage.proofs.items.put_leasts.Goals as goal
 
-pub put_leasts_at-requires : goal.put_leasts_at-requires
-unfolding layout_of
-put_leasts_at-requires c =
+pub loop-i-init : goal.loop-i-init
+unfolding leasts_of
+loop-i-init c = (omega arith, refl, rw (sub-zero (item_count (table_of c.args.t.now))))
+
+pub bounds-leasts-i : goal.bounds-leasts-i
+bounds-leasts-i c =
     let s = c.args.t.now in
-    let p = c.requires in
-    let l = c.layout_of-l in
-    let z = l.ensures.small in
-    (z.points, z.point_count, z.crosses, z.cross_count, omega (arith, ap (λ (l : Layout). l.point_count + l.cross_count) l.ensures.value, counted s p.0, items_few s p.0, p.1))
+    let r = c.records_of-r in
+    omega (arith, items_few s c.requires.0, own-count s c.requires.0 r.result r.ensures, c.count-n.ensures, c.loop-i.invariant.1, c.requires.1)
+
+pub loop-i-preserved : goal.loop-i-preserved
+loop-i-preserved c =
+    let l = c.loop-i in
+    let s = c.args.t.now in
+    let ok = c.requires.0 in
+    let r = c.records_of-r in
+    let n = own-count s ok r.result r.ensures in (
+      omega (arith, n, c.count-n.ensures),
+      simp length-set l.invariant.1,
+      fill-turn (at_least (table_of s)) l.i l.i (item_count (table_of s)) l.i c.least_at.result l.leasts _ l.invariant.2 (c.least_at.ensures ∙ least-own s ok r.result r.ensures l.i) (omega (arith, n, c.count-n.ensures)) (omega (arith, n, c.count-n.ensures, items_few s ok, l.invariant.1, c.requires.1)),
+    )
 
 pub returns : goal.returns
-unfolding layout_of
 returns c =
-    let a = c.args in
-    let s = a.t.now in
-    c.put_leasts_at.ensures ∙ ap (λ (l : Layout). put 0 (leasts_at s l.points l.point_count l.crosses l.cross_count) a.leasts.now) c.layout_of-l.ensures.value
-    ∙ ap (λ (xs : List ℕ). put 0 xs a.leasts.now) (leasts_exact s c.requires.0)
+    let l = c.loop-i in
+    let s = c.args.t.now in
+    let r = c.records_of-r in
+    fill_end (at_least (table_of s)) l.i l.i (item_count (table_of s)) l.i l.leasts _ l.invariant.2 (omega (arith, own-count s c.requires.0 r.result r.ensures, c.count-n.ensures))

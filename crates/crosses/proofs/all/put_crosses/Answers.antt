@@ -8,7 +8,6 @@ use lib.Seq.{length-take-le}
 use Rattle.model.specs.Counters.{Counter, product_count, cross_counters}
 use Rattle.model.specs.Sampling.{Stretches}
 use Rattle.model.specs.Format.{table_of}
-use Rattle.model.proofs.RawExact.{few_crosses}
 use Rattle.arrays.specs.Put.{put}
 use Rattle.arrays.specs.Flat.{Tells, all_cross_counters}
 use Rattle.products.specs.Marks.{cross_marks}
@@ -143,12 +142,6 @@ next_place-p-requires c =
     let h = c.loop-c-test.true in
     let stands = nth-stands s pre.t_value.0 l.c l.p (omega (arith, h, i.1)) i.2 in
     stands
-
-pub overflow_add-c : goal.overflow_add-c
-overflow_add-c c = omega (arith, c.loop-c.invariant.1, c.loop-c-test.true, few_crosses c.args.t.now c.requires.t_value.0)
-
-pub loop-c-smaller : goal.loop-c-smaller
-loop-c-smaller c = omega (arith, c.loop-c-test.true)
 
 pub loop-c-preserved : goal.loop-c-preserved
 loop-c-preserved c =

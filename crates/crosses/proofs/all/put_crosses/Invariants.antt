@@ -17,6 +17,3 @@ invariant-loop-c l =
     × (l.at + length (counters_from (table_of l.t) l.c (l.n - l.c)) ≡ l.initial.at + length (all_cross_counters (table_of l.t)))
     × ((m : Stretches) → Tells (gate_of l.total (table_of l.t) l.sample) (table_of l.t) l.gate
     → put l.at (flags_of l.total (table_of l.t) l.sample m (counters_from (table_of l.t) l.c (l.n - l.c))) l.flags ≡ put l.initial.at (flags_of l.total (table_of l.t) l.sample m (all_cross_counters (table_of l.t))) l.initial.flags)
-
-abbrev pub decreases-loop-c : goal.decreases-loop-c
-decreases-loop-c l = l.n - l.c

@@ -1,5 +1,5 @@
 use mathlib.Core.Path.{◌≡◌}
-use Prim.Native.Nat.{◌+◌, ◌-◌, ◌≤◌}
+use Prim.Native.Nat.{◌+◌, ◌≤◌}
 use lib.ListN.{length, take, drop}
 use Rattle.arrays.specs.Put.{put}
 use Rattle.crosses.specs.Flags.{product_flags}
@@ -10,6 +10,3 @@ invariant-loop-i l =
     (l.i ≤ l.n) × (length l.flags ≡ length l.initial.flags)
     × (l.cur + l.i + length (product_flags l.live (drop l.i (take l.n l.hits)) (drop l.i (take l.n l.marks))) ≡ l.cur + l.n)
     × (put (l.cur + l.i) (product_flags l.live (drop l.i (take l.n l.hits)) (drop l.i (take l.n l.marks))) l.flags ≡ put l.cur (product_flags l.live (take l.n l.hits) (take l.n l.marks)) l.initial.flags)
-
-abbrev pub decreases-loop-i : goal.decreases-loop-i
-decreases-loop-i l = l.n - l.i

@@ -66,12 +66,6 @@ next_place-p-requires c =
     let h = c.loop-c-test.true in
     nth-stands s pre.t_value.0 l.c l.p (omega (arith, h, i.1)) i.2
 
-pub overflow_add-c : goal.overflow_add-c
-overflow_add-c c = omega (arith, c.loop-c.invariant.1, c.loop-c-test.true, few_crosses c.args.t.now c.requires.t_value.0)
-
-pub loop-c-smaller : goal.loop-c-smaller
-loop-c-smaller c = omega (arith, c.loop-c-test.true)
-
 pub loop-c-preserved : goal.loop-c-preserved
 loop-c-preserved c =
     let a = c.args in

@@ -16,6 +16,3 @@ invariant-loop-c l =
     (l.c ≤ l.n) × (l.n ≡ length (table_of l.t).crosses) × Nth l.t l.c l.p × (length l.out ≡ length l.initial.out)
     × (l.at + length (counters_from (table_of l.t) l.c (l.n - l.c)) ≡ l.cur + length (all_cross_counters (table_of l.t)))
     × ((g : Counter → ℕ) → Labels g l.e.cover l.e.illegal l.e.product l.each → put l.at (map g (counters_from (table_of l.t) l.c (l.n - l.c))) l.out ≡ put l.cur (map g (all_cross_counters (table_of l.t))) l.initial.out)
-
-abbrev pub decreases-loop-c : goal.decreases-loop-c
-decreases-loop-c l = l.n - l.c

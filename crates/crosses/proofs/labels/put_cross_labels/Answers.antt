@@ -44,5 +44,5 @@ returns c =
     let z = labels-parts a.t.now a.e.cover a.e.illegal a.e.product a.p.cross a.p.bins k.result h.result.total (product_count (table_of a.t.now) a.p.number) k.ensures h.ensures.products in
     let q = c.put_labels-next in
     let r = c.put_same in
-    both-written a.cur q.result r.result _ _ _ a.out.now q.new.out r.new.flags z pre.bins_in_bounds q.ensures.0 q.ensures.1
+    both-written a.cur q.result r.result _ _ _ a.out.now q.new.out r.new.xs z pre.bins_in_bounds q.ensures.0 q.ensures.1
     (r.ensures.0 ∙ ap (q.result +◌) (sym (length-replicate h.result.total a.e.product))) r.ensures.1

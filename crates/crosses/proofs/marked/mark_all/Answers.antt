@@ -4,7 +4,6 @@ use native.Mathlib.Omega.{arith}
 use lib.ListN.{length}
 use Rattle.model.specs.Counters.{product_count}
 use Rattle.model.specs.Format.{table_of}
-use Rattle.model.proofs.RawExact.{few_crosses}
 use Rattle.products.specs.Marks.{cross_marks}
 use Rattle.crosses.specs.Order.{Nth}
 use Rattle.crosses.specs.Marked.{mark_total}
@@ -78,7 +77,7 @@ mark_products-requires c =
     let size = c.shape_of-s.result.total in
     let here : Here t l.c l.at size = record { inside = omega (arith, h, i.1); start = i.4; many = fits.products ∙ ap (product_count t) i.2.number } in
     let room : mark_total t ≤ length l.marks = omega (arith, i.3, pre.4) in
-    (stands, fits, pre.2, pre.3, part_room t l.c l.at size here l.marks room)
+    (record { stands = stands; fits = fits; from = pre.2; planned = pre.3 }, part_room t l.c l.at size here l.marks room)
 
 pub overflow_add-at : goal.overflow_add-at
 overflow_add-at c =
@@ -104,12 +103,6 @@ next_place-p-requires c =
     let h = c.loop-c-test.true in
     let stands = nth-stands s pre.0 l.c l.p (omega (arith, h, i.1)) i.2 in
     stands
-
-pub overflow_add-c : goal.overflow_add-c
-overflow_add-c c = omega (arith, c.loop-c.invariant.1, c.loop-c-test.true, few_crosses c.args.t.now c.requires.0)
-
-pub loop-c-smaller : goal.loop-c-smaller
-loop-c-smaller c = omega (arith, c.loop-c-test.true)
 
 pub loop-c-preserved : goal.loop-c-preserved
 loop-c-preserved c =

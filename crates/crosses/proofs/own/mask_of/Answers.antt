@@ -13,10 +13,10 @@ pub overflow_mul-mask : goal.overflow_mul-mask
 overflow_mul-mask c = let a = c.args in let l = c.loop-i in omega (arith, l.invariant.1, mask-small a.t.now (a.b + 3 * l.i) (a.n - l.i) (omega arith))
 
 pub overflow_add-mask : goal.overflow_add-mask
-overflow_add-mask c = let a = c.args in let l = c.loop-i in omega (arith, l.invariant.1, mask-small a.t.now (a.b + 3 * l.i) (a.n - l.i) (omega arith), c.excluding.ensures, as_bit-le (excludes (kind_from c.byte-kind.result)))
+overflow_add-mask c = let a = c.args in let l = c.loop-i in omega (arith, l.invariant.1, mask-small a.t.now (a.b + 3 * l.i) (a.n - l.i) (omega arith), c.excluding.ensures, as_bit-le (excludes (kind_from c.byte.result)))
 
 pub loop-i-preserved : goal.loop-i-preserved
-loop-i-preserved c = let a = c.args in let l = c.loop-i in (omega arith, mask-back a.t.now a.b a.n l.i c.byte-kind.result c.excluding.result l.mask (omega arith) (omega arith) c.byte-kind.ensures c.excluding.ensures l.invariant.1)
+loop-i-preserved c = let a = c.args in let l = c.loop-i in (omega arith, mask-back a.t.now a.b a.n l.i c.byte.result c.excluding.result l.mask (omega arith) (omega arith) c.byte.ensures c.excluding.ensures l.invariant.1)
 
 pub returns : goal.returns
 returns c = let a = c.args in let l = c.loop-i in mask_done a.t.now a.b a.n l.i l.mask (omega arith) l.invariant.1

@@ -9,7 +9,7 @@ pub loop-i-preserved : goal.loop-i-preserved
 loop-i-preserved c =
     let a = c.args in
     let l = c.loop-i in
-    (omega arith, own_back a.mask a.n l.i c.own_mark-m.result l.own a.hits.now a.marks.now (omega arith) (omega arith) (omega arith) (omega arith) c.own_mark-m.ensures l.invariant.1)
+    (omega arith, own_back a.mask a.n l.i c.own_mark-own.result l.own a.hits.now a.marks.now (omega arith) (omega arith) (omega arith) (omega arith) c.own_mark-own.ensures l.invariant.1)
 
 pub returns : goal.returns
 returns c = let a = c.args in let l = c.loop-i in own_done a.mask a.n l.i l.own a.hits.now a.marks.now (omega arith) l.invariant.1

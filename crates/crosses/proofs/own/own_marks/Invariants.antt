@@ -6,6 +6,3 @@ use Rattle.crosses.proofs.own.own_marks.Given as goal
 
 abbrev pub invariant-loop-i : goal.invariant-loop-i
 invariant-loop-i l = (l.i ≤ l.n) × (l.own ≡ own_marks l.mask (drop l.i (take l.n l.hits)) (drop l.i (take l.n l.marks)))
-
-abbrev pub decreases-loop-i : goal.decreases-loop-i
-decreases-loop-i l = l.i

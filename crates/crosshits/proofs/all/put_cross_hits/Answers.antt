@@ -6,7 +6,6 @@ use lib.ListN.{length}
 use Rattle.model.specs.Counters.{Counter, product_count, cross_counters}
 use Rattle.model.specs.Sampling.{hits}
 use Rattle.model.specs.Format.{table_of}
-use Rattle.model.proofs.RawExact.{few_crosses}
 use Rattle.arrays.specs.Flat.{all_cross_counters}
 use Rattle.arrays.proofs.Written.{written_start, written-turn, written_end}
 use Rattle.places.specs.Places.{places_from}
@@ -130,21 +129,6 @@ next_place-p-requires c =
     let in_table : l.c < length (table_of s).crosses = omega (arith, h, i.1) in
     let stands = nth-stands s pre.t_value.0 l.c l.p in_table i.2 in
     stands
-
-pub overflow_add-c : goal.overflow_add-c
-overflow_add-c c =
-    let a = c.args in
-    let pre = c.requires in
-    let s = a.t.now in
-    let l = c.loop-c in
-    let i = l.invariant in
-    let h = c.loop-c-test.true in
-    let in_table : l.c < length (table_of s).crosses = omega (arith, h, i.1) in
-    let stands = nth-stands s pre.t_value.0 l.c l.p in_table i.2 in
-    omega (arith, h, i.1, few_crosses s pre.t_value.0)
-
-pub loop-c-smaller : goal.loop-c-smaller
-loop-c-smaller c = omega (arith, c.loop-c-test.true)
 
 pub loop-c-preserved : goal.loop-c-preserved
 loop-c-preserved c =

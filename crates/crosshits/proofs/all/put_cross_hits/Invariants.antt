@@ -16,6 +16,3 @@ invariant-loop-c l =
     (l.c ≤ l.n) × (l.n ≡ length (table_of l.t).crosses) × Nth l.t l.c l.p × (length l.hits ≡ length l.initial.hits) × (l.start ≡ 16 + mark_start (table_of l.t) l.c)
     × (l.first + length (counters_from (table_of l.t) l.c (l.n - l.c)) ≡ l.base + length (all_cross_counters (table_of l.t))) × (l.at + l.base ≤ l.first)
     × ((m : Stretches) → Written 0 (places_from (hits (table_of l.t) l.sample m) l.base (all_cross_counters (table_of l.t))) l.initial.hits l.at l.hits (places_from (hits (table_of l.t) l.sample m) l.first (counters_from (table_of l.t) l.c (l.n - l.c))))
-
-abbrev pub decreases-loop-c : goal.decreases-loop-c
-decreases-loop-c l = l.n - l.c

@@ -3,6 +3,7 @@ use mathlib.Core.List.{List}
 use Prim.Native.Nat.{ℕ}
 use native.Mathlib.Omega.{arith}
 use lib.ListN.{length, take}
+use lib.Seq.{length-take-le}
 use Rattle.arrays.proofs.Written.{as_written}
 use Rattle.products.proofs.Exact.{cross_placed}
 use Rattle.crosshits.specs.Cross.{live_places, cross_numbers}
@@ -22,6 +23,22 @@ put_numbers-n-requires c =
     let ms = a.plan.now in
     (numbers_ready s w f ms a.x g, omega (arith, numbers_many s w f ms a.x g, c.requires.2))
 
+pub slice_bounds-put_live-end : goal.slice_bounds-put_live-end
+slice_bounds-put_live-end c =
+    let a = c.args in
+    let g = c.requires.0 in
+    let q = c.put_numbers-n in
+    let listed = numbers_listed a.t.now a.sample.now a.found.now a.plan.now a.x g q.result a.list.now q.new.list q.ensures.0 q.ensures.1 c.requires.2 in
+    listed.2
+
+pub slice_bounds-put_live-end-2 : goal.slice_bounds-put_live-end-2
+slice_bounds-put_live-end-2 c =
+    let a = c.args in
+    let g = c.requires.0 in
+    let q = c.put_numbers-n in
+    let listed = numbers_listed a.t.now a.sample.now a.found.now a.plan.now a.x g q.result a.list.now q.new.list q.ensures.0 q.ensures.1 c.requires.2 in
+    sym (length-take-le q.result q.new.list listed.2)
+
 pub put_live-requires : goal.put_live-requires
 put_live-requires c =
     let a = c.args in
@@ -35,7 +52,7 @@ put_live-requires c =
     let listed = numbers_listed s w f ms a.x g q.result a.list.now q.new.list q.ensures.0 q.ensures.1 c.requires.2 in
     let few = numbers_few s w f ms a.x g in
     let all = counters_room s w f ms a.x g (take q.result q.new.list) in
-    (good.near.0, good.near.1, good.few, listed.2, numbers_below s w f ms a.x g q.result q.new.list listed.0 listed.1, g.near, omega (arith, all, g.small), omega (arith, all, few, listed.1, g.fits.products, c.requires.1), g.low)
+    (good.near.0, good.near.1, good.few, numbers_below s w f ms a.x g (take q.result q.new.list) listed.0, g.near, omega (arith, all, g.small), omega (arith, all, few, ap length listed.0, g.fits.products, c.requires.1), g.low)
 
 pub returns : goal.returns
 returns c =

@@ -1,20 +1,22 @@
-use native.Mathlib.Omega.{arith}
-use Rattle.crosshits.proofs.ListedLaws.{marks_none, marks_back, marks_done}
+use mathlib.Core.Path.{sym, ap, ◌∙◌}
+use lib.Bits.{or_zero_l}
+use Rattle.crosses.specs.Flags.{own_mark}
+use Rattle.crosshits.specs.Listed.{list_marks}
+use Rattle.crosshits.proofs.ListedLaws.{marks_turn, marks_end}
 use Rattle.crosshits.proofs.marks.marks_of.Goals as goal
 
-pub loop-i-init : goal.loop-i-init
-loop-i-init c = let a = c.args in (omega arith, marks_none a.mask a.plan.now a.start a.n a.list.now)
+pub loop-x-init : goal.loop-x-init
+loop-x-init c = let a = c.args in or_zero_l (list_marks a.mask a.plan.now a.start a.list.now)
 
-pub loop-i-preserved : goal.loop-i-preserved
-loop-i-preserved c =
+pub loop-x-preserved : goal.loop-x-preserved
+loop-x-preserved c =
     let a = c.args in
-    let l = c.loop-i in
-    let x = c.element in
-    let y = c.element-x in
-    (omega arith, marks_back a.mask a.plan.now a.start a.n a.list.now l.i c.own_mark-m.result x.result y.result l.own (omega arith) (omega arith) (omega arith) y.ensures x.ensures c.own_mark-m.ensures l.invariant.1)
+    let l = c.loop-x in
+    let m = c.own_mark-own in
+    marks_turn a.mask a.plan.now a.start a.list.now l.x-index m.result l.own c.loop-x-test.true (m.ensures ∙ ap (own_mark a.mask 1) c.element.ensures) ∙ l.invariant
 
 pub returns : goal.returns
 returns c =
     let a = c.args in
-    let l = c.loop-i in
-    marks_done a.mask a.plan.now a.start a.n a.list.now l.i l.own (omega arith) l.invariant.1
+    let l = c.loop-x in
+    sym (marks_end a.mask a.plan.now a.start a.list.now l.x-index l.own c.loop-x-test.false) ∙ l.invariant

@@ -1,11 +1,8 @@
 use mathlib.Core.Path.{◌≡◌}
-use Prim.Native.Nat.{◌≤◌}
-use lib.ListN.{take, drop}
+use lib.Bits.{bit_or}
+use lib.ListN.{drop}
 use Rattle.crosshits.specs.Listed.{list_marks}
 use Rattle.crosshits.proofs.marks.marks_of.Given as goal
 
-abbrev pub invariant-loop-i : goal.invariant-loop-i
-invariant-loop-i l = (l.i ≤ l.n) × (l.own ≡ list_marks l.mask l.plan l.start (drop l.i (take l.n l.list)))
-
-abbrev pub decreases-loop-i : goal.decreases-loop-i
-decreases-loop-i l = l.i
+abbrev pub invariant-loop-x : goal.invariant-loop-x
+invariant-loop-x l = bit_or l.own (list_marks l.mask l.plan l.start (drop l.x-index l.list)) ≡ list_marks l.mask l.plan l.start l.list

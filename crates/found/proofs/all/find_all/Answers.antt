@@ -25,15 +25,8 @@ overflow_mul-p c =
     let l = c.loop-p in
     omega (arith, few_points a.t.now q.t_value.0, l.invariant.1, c.loop-p-test.true)
 
-pub overflow_add-p : goal.overflow_add-p
-overflow_add-p c =
-    let a = c.args in
-    let q = c.requires in
-    let l = c.loop-p in
-    omega (arith, few_points a.t.now q.t_value.0, l.invariant.1, c.loop-p-test.true)
-
-pub lowest_at-low-requires : goal.lowest_at-low-requires
-lowest_at-low-requires c =
+pub lowest_at-requires : goal.lowest_at-requires
+lowest_at-requires c =
     let a = c.args in
     let q = c.requires in
     let l = c.loop-p in
@@ -61,17 +54,7 @@ find_point-requires c =
     let l = c.loop-p in
     let s = a.t.now in
     let h : l.p < point_total (table_of s) = omega (arith, l.invariant.1, c.loop-p-test.true) in
-    record { t_value = (q.t_value.0, h, q.t_value.1.widths, code_at (table_of s) a.sample.now a.readings.now l.p q.t_value.1 h, c.lowest_at-low.ensures ∙ ap lowest (sym (point_is s q.t_value.0 l.p h)), bins-place s y.result y.ensures.value); values_plan = (q.values_plan.0, q.values_plan.1, q.values_plan.2, omega (arith, q.values_plan.3, l.invariant.2)) }
-
-pub overflow_add-p-in-loop-p : goal.overflow_add-p-in-loop-p
-overflow_add-p-in-loop-p c =
-    let a = c.args in
-    let q = c.requires in
-    let l = c.loop-p in
-    omega (arith, few_points a.t.now q.t_value.0, l.invariant.1, c.loop-p-test.true)
-
-pub loop-p-smaller : goal.loop-p-smaller
-loop-p-smaller c = omega (arith, c.loop-p-test.true)
+    record { reading = record { good = q.t_value.0; own = h; widths = q.t_value.1.widths; code = code_at (table_of s) a.sample.now a.readings.now l.p q.t_value.1 h; low = c.lowest_at.ensures ∙ ap lowest (sym (point_is s q.t_value.0 l.p h)); bins = bins-place s y.result y.ensures.value }; values_plan = (q.values_plan.0, q.values_plan.1, q.values_plan.2, omega (arith, q.values_plan.3, l.invariant.2)) }
 
 pub loop-p-preserved : goal.loop-p-preserved
 loop-p-preserved c =

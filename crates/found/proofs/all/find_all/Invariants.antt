@@ -1,5 +1,5 @@
 use mathlib.Core.Path.{◌≡◌}
-use Prim.Native.Nat.{◌-◌, ◌≤◌}
+use Prim.Native.Nat.{◌≤◌}
 use lib.ListN.{length}
 use Rattle.model.specs.Format.{table_of}
 use Rattle.model.specs.Register.{point_total}
@@ -9,6 +9,3 @@ use Rattle.found.proofs.all.find_all.Given as goal
 abbrev pub invariant-loop-p : goal.invariant-loop-p
 invariant-loop-p l =
     (l.p ≤ l.n) × (l.n ≡ point_total (table_of l.t)) × (length l.found ≡ length l.initial.found) × FoundTo (table_of l.t) l.sample l.p l.found
-
-abbrev pub decreases-loop-p : goal.decreases-loop-p
-decreases-loop-p l = l.n - l.p

@@ -8,6 +8,3 @@ use Rattle.hits.proofs.covers.put_found.Given as goal
 abbrev pub invariant-loop-i : goal.invariant-loop-i
 invariant-loop-i l =
     (l.i ≤ l.n) × (length l.hits ≡ length l.initial.hits) × (put l.i (elements_at l.places (take (l.n - l.i) (drop (1 + l.i) l.found))) l.hits ≡ put 0 (elements_at l.places (take l.n (drop 1 l.found))) l.initial.hits)
-
-abbrev pub decreases-loop-i : goal.decreases-loop-i
-decreases-loop-i l = l.n - l.i

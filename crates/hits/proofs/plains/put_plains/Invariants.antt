@@ -7,6 +7,3 @@ use Rattle.hits.proofs.plains.put_plains.Given as goal
 abbrev pub invariant-loop-i : goal.invariant-loop-i
 invariant-loop-i l =
     (l.i ≤ l.n) × (l.at ≤ l.initial.at + 1114095 * l.i) × (l.j ≤ l.i) × Written 0 (plain_hits l.sample l.h.point l.h.value l.h.listed l.plains 0 (bins_at l.t l.a l.initial.at l.n)) l.initial.hits l.c l.hits (plain_hits l.sample l.h.point l.h.value l.h.listed l.plains l.j (bins_at l.t (l.a + 8 * l.i) l.at (l.n - l.i)))
-
-abbrev pub decreases-loop-i : goal.decreases-loop-i
-decreases-loop-i l = l.n - l.i

@@ -44,7 +44,8 @@ loop-i-preserved c =
     let a = c.args in
     let l = c.loop-i in
     let e = c.add_bin.ensures in
-    let r = ap (λ (k : ℕ). l.r + 17 * k) c.whole2-owned.ensures in
+    let r = ap (λ (k : ℕ). l.r + 17 * k) (c.from-owned.ensures ∙ c.whole2.ensures) in
+    let one : c.from-illegals.result ≡ cond (eqb c.inside-kind.result 2) 1 0 = search rules in
     let kind = kind_from (byte a.t.now (l.b + 1)) in (
       search rules,
       search rules,
@@ -57,7 +58,7 @@ loop-i-preserved c =
       bins_on _ a.t.now l.b l.r a.l.bin_count l.i _ _ l.invariant.8 (search rules) _ _ r e.singles_after,
       bins_on _ a.t.now l.b l.r a.l.bin_count l.i _ _ l.invariant.9 (search rules) _ _ r e.bars_after,
       search rules,
-      walk-on (is_byte a.t.now 2) (after 8) a.l.bin_count l.i _ _ (l.b + 1) l.invariant.11 _ _ (search rules) (c.one_if-illegals.ensures.0 ∙ ap (λ (k : ℕ). cond (eqb k 2) 1 0) c.inside-kind.ensures) (let z : l.b + 8 + 1 ≡ l.b + 1 + 8 = omega arith in z),
+      walk-on (is_byte a.t.now 2) (after 8) a.l.bin_count l.i _ _ (l.b + 1) l.invariant.11 _ _ (search rules) (one ∙ ap (λ (k : ℕ). cond (eqb k 2) 1 0) c.inside-kind.ensures) (let z : l.b + 8 + 1 ≡ l.b + 1 + 8 = omega arith in z),
     )
 
 pub returns : goal.returns

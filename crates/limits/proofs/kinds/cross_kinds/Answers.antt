@@ -8,12 +8,12 @@ loop-i-init c = search walks
 
 pub loop-i-preserved : goal.loop-i-preserved
 loop-i-preserved c =
-    let k = c.byte-k.ensures in (
+    let k = c.from-k.ensures ∙ c.byte.ensures in (
       search rules,
       search rules,
       search rules,
       search rules,
-      walk-on _ _ _ _ _ _ _ c.loop-i.invariant.4 _ _ (search rules) (c.count_bytes-found.ensures.0 ∙ rw k) (rw k),
+      walk-on _ _ _ _ _ _ _ c.loop-i.invariant.4 _ _ (search rules) (c.count_kind-found.ensures.0 ∙ rw k) (rw k),
     )
 
 pub returns : goal.returns

@@ -1,5 +1,6 @@
+use Prim.Native.Nat.{◌+◌}
 use mathlib.Core.Path.{◌∙◌}
-use Rattle.limits.proofs.WalkLaws.{walks, walk-on}
+use Rattle.limits.proofs.WalkLaws.{walks, walk-on, walk-bytes}
 use borrow.Author.Rules.{rules}
 use Rattle.limits.proofs.kinds.mosts.Goals as goal
 
@@ -8,14 +9,17 @@ loop-i-init c = search walks
 
 pub loop-i-preserved : goal.loop-i-preserved
 loop-i-preserved c =
-    let m = c.byte-m.ensures in
-    let k = c.sum_bytes-k.ensures.0 in (
+    let l = c.loop-i in
+    let s = c.args.t.now in
+    let m = c.from-m.ensures ∙ c.byte.ensures in
+    let k = c.sum_bytes-k.ensures.0 ∙ walk-bytes s 1 l.q c.from-m.result in
+    let found = c.sum_bytes-found.ensures.0 ∙ walk-bytes s 3 (l.p + 2) c.sum_bytes-k.result in (
       search rules,
       search rules,
       search rules,
       search rules,
       search rules,
-      walk-on _ _ _ _ _ _ _ c.loop-i.invariant.5 _ _ (search rules) (c.sum_bytes-found.ensures.0 ∙ rw (k, m)) (rw (k, m)),
+      walk-on _ _ _ _ _ _ _ l.invariant.5 _ _ (search rules) (found ∙ rw (k, m)) (rw (k, m)),
     )
 
 pub returns : goal.returns

@@ -5,4 +5,4 @@ use Rattle.limits.proofs.points.auto_count.Goals as goal
 
 pub returns : goal.returns
 unfolding power_of
-returns c = (c.least.ensures ∙ rw (c.read2-most.ensures, c.power-all.ensures.0, c.byte-width.ensures), search rules)
+returns c = (c.min.ensures ∙ rw (c.from-most.ensures, c.read2.ensures, c.power-all.ensures.0, c.type_at.ensures.width), search rules)

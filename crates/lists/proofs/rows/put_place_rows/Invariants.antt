@@ -1,5 +1,5 @@
 use mathlib.Core.Path.{◌≡◌}
-use Prim.Native.Nat.{◌-◌, ◌≤◌}
+use Prim.Native.Nat.{◌≤◌}
 use lib.ListN.{length}
 use Rattle.model.specs.Format.{table_of}
 use Rattle.model.specs.Register.{point_total}
@@ -8,6 +8,3 @@ use Rattle.lists.proofs.rows.put_place_rows.Given as goal
 
 abbrev pub invariant-loop-p : goal.invariant-loop-p
 invariant-loop-p l = (l.p ≤ l.n) × (l.n ≡ point_total (table_of l.t)) × (length l.rows ≡ length l.initial.rows) × RowsTo (table_of l.t) l.p l.rows
-
-abbrev pub decreases-loop-p : goal.decreases-loop-p
-decreases-loop-p l = l.n - l.p

@@ -6,7 +6,7 @@ use borrow.Author.Rules.{rules}
 use Rattle.meets.proofs.met.meet.Goals as goal
 
 pub reach_of-reach-requires : goal.reach_of-reach-requires
-reach_of-reach-requires c = let q = c.requires.n_in_bounds in (q.1, q.2, q.3, q.4)
+reach_of-reach-requires c = c.requires.n_in_bounds.1
 
 pub loop-i-init : goal.loop-i-init
 loop-i-init c =
@@ -18,7 +18,7 @@ pub meet_run-i-requires : goal.meet_run-i-requires
 meet_run-i-requires c =
     let q = c.requires in
     let l = c.loop-i in
-    record { i_lt_n = (omega arith, q.n_in_bounds.0, l.invariant.3, l.invariant.4, q.n_in_bounds.1, q.n_in_bounds.2, q.n_in_bounds.3, q.n_in_bounds.4); all = rw l.invariant.1 q.all }
+    record { i_lt_n = (omega arith, q.n_in_bounds.0, l.invariant.3, l.invariant.4, q.n_in_bounds.1); all = rw l.invariant.1 q.all }
 
 pub loop-i-smaller : goal.loop-i-smaller
 loop-i-smaller c = omega (arith, c.meet_run-i.ensures.0, c.meet_run-i.ensures.1)

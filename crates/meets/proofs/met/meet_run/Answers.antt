@@ -26,7 +26,7 @@ meet_pattern-requires c =
     let e = c.meet_spans-j.ensures.lower_bound in
     let less : j < a.n = omega (arith, c.if-n-j.false) in
     let below : part_above (get_or a.words.now (2 * j + 1) 0) < length a.flags.now = rw zero-add at (row_in (PartBelow (length a.flags.now)) (piece_at a.words.now) 2 0 a.n q.all j less) in
-    record { at_in_bounds = (omega (arith, q.i_lt_n.1), e.2 less, q.i_lt_n.4, q.i_lt_n.5, q.i_lt_n.6, q.i_lt_n.7); part_below = omega (arith, c.meet_spans-j.auto.flags) }
+    record { at_in_bounds = (omega (arith, q.i_lt_n.1), e.2 less, q.i_lt_n.4); part_below = omega (arith, c.meet_spans-j.auto.flags) }
 
 pub returns : goal.returns
 returns c =

@@ -13,4 +13,4 @@ returns-then-x-bits c =
 pub returns : goal.returns
 returns c =
     let a = c.args in
-    (next_outer a.bits a.mask a.x _ c.if-x-bits.false (ap (λ (y : ℕ). 2147483648 + y) (c.next_pattern.ensures.0 ∙ ap (pattern_from 32 a.bits a.mask) c.less.ensures)), omega arith)
+    (next_outer a.bits a.mask a.x _ c.if-x-bits.false (ap (λ (y : ℕ). 2147483648 + y) (c.next_pattern.ensures.0 ∙ ap (pattern_from 32 a.bits a.mask) c.saturating_sub.ensures)), omega arith)

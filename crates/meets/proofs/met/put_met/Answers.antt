@@ -7,7 +7,7 @@ put_flags-requires c =
     let a = c.args in
     let q = c.requires in
     let e = lent_length a.at a.ask.parts a.out.now q.parts_in_bounds.0 in
-    record { n_in_bounds = (omega arith, q.spans_value.0, q.spans_value.1, q.spans_value.2, q.spans_value.3); all = rw e q.parts_in_bounds.1 }
+    record { n_in_bounds = (omega arith, q.spans_value); all = rw e q.parts_in_bounds.1 }
 
 pub returns : goal.returns
 returns c =

@@ -1,5 +1,5 @@
 use mathlib.Core.Path.{◌≡◌}
-use Prim.Native.Nat.{◌-◌, ◌≤◌}
+use Prim.Native.Nat.{◌≤◌}
 use lib.ListN.{length}
 use Rattle.model.specs.Format.{table_of}
 use Rattle.meets.proofs.PlanLaws.{Filled}
@@ -8,6 +8,3 @@ use Rattle.meets.proofs.plan.put_has.Given as goal
 abbrev pub invariant-loop-p : goal.invariant-loop-p
 invariant-loop-p l =
     (l.p ≤ l.n) × (length l.out ≡ length l.initial.out) × Filled (table_of l.t) l.p l.out
-
-abbrev pub decreases-loop-p : goal.decreases-loop-p
-decreases-loop-p l = l.n - l.p

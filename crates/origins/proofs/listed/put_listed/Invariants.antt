@@ -6,8 +6,5 @@ use Rattle.origins.proofs.listed.put_listed.Given as goal
 
 abbrev pub invariant-loop-i : goal.invariant-loop-i
 invariant-loop-i l =
-    (l.i ≤ l.n) × (l.b ≤ l.initial.b + 8 * l.i) × (l.r ≤ l.initial.r + 1114095 * l.i)
-    × Written l.at (origins_in l.low l.p l.first (bins_at l.t l.initial.b l.initial.r l.n)) l.initial.out l.c l.out (origins_in l.low l.p (l.first + l.i) (bins_at l.t l.b l.r (l.n - l.i)))
-
-abbrev pub decreases-loop-i : goal.decreases-loop-i
-decreases-loop-i l = l.n - l.i
+    (l.i ≤ l.own.count) × (l.r ≤ l.initial.r + 1114095 * l.i)
+    × Written l.at (origins_in l.low l.p l.first (bins_at l.t l.own.bins l.initial.r l.own.count)) l.initial.out l.c l.out (origins_in l.low l.p (l.first + l.i) (bins_at l.t (l.own.bins + 8 * l.i) l.r (l.own.count - l.i)))

@@ -22,8 +22,8 @@ put_listed-e-requires c =
     let z = origins-point s a.l a.own a.p low.result (first_of a.l a.own) m.result has.result low.ensures refl has.ensures m.ensures.0 in
     (q.bins_bound.0, q.bins_bound.1, q.bins_bound.3, omega (arith, low.ensures, low-bound (point_record s (a.l.points + 11 * a.p))), omega (arith, q.bins_bound.4, ap length z ∙ length-append listed (replicate m.result 65535), length-replicate {A = ℕ} m.result 65535))
 
-pub put_same_u16-requires : goal.put_same_u16-requires
-put_same_u16-requires c =
+pub put_same-requires : goal.put_same-requires
+put_same-requires c =
     let a = c.args in
     let q = c.requires in
     let s = a.t.now in
@@ -46,6 +46,6 @@ returns c =
     let listed = origins_in low.result a.p (first_of a.l a.own) (bins_at s a.own.bins a.own.ranges a.own.count) in
     let z = origins-point s a.l a.own a.p low.result (first_of a.l a.own) m.result has.result low.ensures refl has.ensures m.ensures.0 in
     let w = c.put_listed-e in
-    let v = c.put_same_u16 in
-    both-written a.at w.result v.result listed (replicate m.result 65535) (point_origins s a.l a.own a.p) a.out.now w.new.out v.new.elements z q.bins_bound.4
+    let v = c.put_same in
+    both-written a.at w.result v.result listed (replicate m.result 65535) (point_origins s a.l a.own a.p) a.out.now w.new.out v.new.xs z q.bins_bound.4
     w.ensures.0 w.ensures.1 (v.ensures.0 ∙ ap (w.result +◌) (sym (length-replicate {A = ℕ} m.result 65535))) v.ensures.1

@@ -7,11 +7,8 @@ use Rattle.parts.proofs.built.put_bins.Given as goal
 
 abbrev pub invariant-loop-i : goal.invariant-loop-i
 invariant-loop-i l =
-    (l.i ≤ l.n) × (l.here ≤ l.initial.here + 8 * l.i) × (l.ranges ≤ l.initial.ranges + 1114095 * l.i) × (length l.out ≡ length l.initial.out) × (length l.room ≡ length l.initial.room) × (length l.sorted ≡ length l.initial.sorted) × Fits l.t l.low l.p l.here l.ranges (l.n - l.i)
-    × (l.c + length (words_at l.t l.low l.p l.first l.here l.ranges (l.n - l.i)) ≡ l.at + length (words_at l.t l.low l.p 0 l.initial.here l.initial.ranges l.n))
-    × (l.first + parts_in l.t l.low l.p l.here l.ranges (l.n - l.i) ≡ parts_in l.t l.low l.p l.initial.here l.initial.ranges l.n)
-    × (put l.c (words_at l.t l.low l.p l.first l.here l.ranges (l.n - l.i)) l.out ≡ put l.at (words_at l.t l.low l.p 0 l.initial.here l.initial.ranges l.n) l.initial.out)
-    × (own_listed l.t l.p l.here (l.n - l.i) ≤ length l.initial.room)
-
-abbrev pub decreases-loop-i : goal.decreases-loop-i
-decreases-loop-i l = l.n - l.i
+    (l.i ≤ l.l.count) × (l.ranges ≤ l.initial.ranges + 1114095 * l.i) × (length l.out ≡ length l.initial.out) × (length l.room ≡ length l.initial.room) × (length l.sorted ≡ length l.initial.sorted) × Fits l.t l.q.low l.q.point (l.l.bins + 8 * l.i) l.ranges (l.l.count - l.i)
+    × (l.next.at + length (words_at l.t l.q.low l.q.point l.next.first (l.l.bins + 8 * l.i) l.ranges (l.l.count - l.i)) ≡ l.at + length (words_at l.t l.q.low l.q.point 0 l.l.bins l.initial.ranges l.l.count))
+    × (l.next.first + parts_in l.t l.q.low l.q.point (l.l.bins + 8 * l.i) l.ranges (l.l.count - l.i) ≡ parts_in l.t l.q.low l.q.point l.l.bins l.initial.ranges l.l.count)
+    × (put l.next.at (words_at l.t l.q.low l.q.point l.next.first (l.l.bins + 8 * l.i) l.ranges (l.l.count - l.i)) l.out ≡ put l.at (words_at l.t l.q.low l.q.point 0 l.l.bins l.initial.ranges l.l.count) l.initial.out)
+    × (own_listed l.t l.q.point (l.l.bins + 8 * l.i) (l.l.count - l.i) ≤ length l.initial.room)

@@ -9,8 +9,8 @@ overflow_sub-d c =
     let q = source_at a.t.now a.b.low a.b.at a.b.ranges in
     omega (arith, c.listed_count-count.ensures, count-some q.form q.ranges c.requires.at_bound.3.deals)
 
-pub put_ranges-e-requires : goal.put_ranges-e-requires
-put_ranges-e-requires c =
+pub put_ranges-at-requires : goal.put_ranges-at-requires
+put_ranges-at-requires c =
     let a = c.args in
     (omega arith, omega arith, listed-room a.t.now a.b.low a.b.at a.b.ranges c.read2-n.result c.read2-n.ensures c.requires.at_bound.2 _ _ c.requires.ranges_in_bounds.0, listed-light a.t.now a.b.low a.b.at a.b.ranges c.read2-n.result c.read2-n.ensures c.requires.at_bound.2 c.requires.at_bound.3)
 
@@ -21,4 +21,4 @@ overflow_add-result c =
 pub returns : goal.returns
 returns c =
     let a = c.args in
-    listed-on a.t.now a.b.low a.b.at a.b.ranges c.read2-n.result c.read2-n.ensures c.requires.at_bound.2 a.next.at a.next.first _ _ _ _ _ c.listed_count-count.ensures c.bin_share-share.ensures c.put_ranges-e.ensures.0 c.put_ranges-e.ensures.1
+    listed-on a.t.now a.b.low a.b.at a.b.ranges c.read2-n.result c.read2-n.ensures c.requires.at_bound.2 a.next.at a.next.first _ _ _ _ _ c.listed_count-count.ensures c.bin_share-share.ensures c.put_ranges-at.ensures.0 c.put_ranges-at.ensures.1

@@ -24,7 +24,7 @@ put_listed-requires c =
     let yes = c.if-not-own.false in
     record { at_bound = (c.requires.at_bound.0, c.requires.at_bound.1, (λ e. c.if-byte-eq1.false (c.byte.ensures ∙ e)), own_fit a.t.now a.b.low a.b.at a.b.ranges a.own yes c.requires.at_bound.3); ranges_in_bounds = (own_room a.t.now a.b.low a.b.at a.b.ranges a.own _ _ yes c.requires.ranges_in_bounds.0, own_parts a.t.now a.b.low a.b.at a.b.ranges a.own _ _ yes c.requires.ranges_in_bounds.1) }
 
-pub returns : goal.returns
-returns c =
+pub returns-else-byte-eq1 : goal.returns-else-byte-eq1
+returns-else-byte-eq1 c =
     let a = c.args in
     own_on a.t.now a.b.low a.b.at a.b.ranges a.own _ _ _ _ _ _ (c.if-not-own.false) c.put_listed.ensures

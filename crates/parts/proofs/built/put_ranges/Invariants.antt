@@ -11,6 +11,3 @@ abbrev pub invariant-loop-i : goal.invariant-loop-i
 invariant-loop-i l =
     (l.i ≤ l.n) × (length l.out ≡ length l.initial.out) × (l.before + sizes (ranges_at l.t (l.r + 17 * l.i) (l.n - l.i)) ≡ sizes (ranges_at l.t l.r l.n))
     × (put (l.c + 7 * l.i) (bin_words l.d.first l.d.last l.d.share l.before (ranges_at l.t (l.r + 17 * l.i) (l.n - l.i))) l.out ≡ put l.c (bin_words l.d.first l.d.last l.d.share 0 (ranges_at l.t l.r l.n)) l.initial.out)
-
-abbrev pub decreases-loop-i : goal.decreases-loop-i
-decreases-loop-i l = l.n - l.i

@@ -24,8 +24,8 @@ overflow_sub-d c =
 pub slice_bounds-put_spans-end-2 : goal.slice_bounds-put_spans-end-2
 slice_bounds-put_spans-end-2 c = part_length _ _ (search rules)
 
-pub put_spans-e-requires : goal.put_spans-e-requires
-put_spans-e-requires c =
+pub put_spans-at-requires : goal.put_spans-at-requires
+put_spans-at-requires c =
     let a = c.args in
     let ready = spans-ready a.t.now a.b.low a.b.at a.b.ranges c.read2-n.result c.read2-n.ensures c.requires.at_bound.3 c.requires.at_bound.4 _ c.settle_spans-k.ensures.1 in
     (spans_room a.t.now a.b.low a.b.at a.b.ranges c.read2-n.result c.read2-n.ensures c.requires.at_bound.3 c.requires.at_bound.4 _ c.settle_spans-k.ensures.1 _ _ c.requires.ranges_in_bounds.0, c.requires.at_bound.2, ready.0, ready.1)
@@ -38,4 +38,4 @@ overflow_add-result c =
 pub returns : goal.returns
 returns c =
     let a = c.args in
-    spans_on a.t.now a.b.low a.b.at a.b.ranges c.read2-n.result c.read2-n.ensures c.requires.at_bound.3 c.requires.at_bound.4 _ c.settle_spans-k.ensures.1 a.next.at a.next.first _ _ _ _ c.sizes_of-count.ensures c.put_spans-e.ensures.0 c.put_spans-e.ensures.1
+    spans_on a.t.now a.b.low a.b.at a.b.ranges c.read2-n.result c.read2-n.ensures c.requires.at_bound.3 c.requires.at_bound.4 _ c.settle_spans-k.ensures.1 a.next.at a.next.first _ _ _ _ c.sizes_of-count.ensures c.put_spans-at.ensures.0 c.put_spans-at.ensures.1

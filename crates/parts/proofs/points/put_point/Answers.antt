@@ -10,7 +10,7 @@ pub returns-then-has_auto : goal.returns-then-has_auto
 returns-then-has_auto c =
     let a = c.args in
     let e = c.put_auto-k.ensures in
-    auto_plan a.t.now a.p a.l.point a.l.bins a.l.ranges a.l.count a.l.transitions a.l.many _ c.has_auto.ensures a.at a.out.now _ _ c.if-has_auto.true c.requires.near.1 c.requires.near.2 e.0 c.requires.room.0.some e.1
+    auto_plan a.t.now a.p a.l.point a.l.own.bins a.l.own.ranges a.l.own.count a.l.transitions.at a.l.transitions.count _ c.has_auto.ensures a.at a.out.now _ _ c.if-has_auto.true c.requires.near.1 c.requires.near.2 e.0 c.requires.room.0.some e.1
 
 pub put_bins-e-requires : goal.put_bins-e-requires
 put_bins-e-requires c =
@@ -27,5 +27,5 @@ returns c =
     let a = c.args in
     let e = c.put_bins-e.ensures in
     let low = c.lowest_at-low in
-    let room : a.at + length (words_at a.t.now low.result a.p 0 a.l.bins a.l.ranges a.l.count) ≤ length a.out.now = rw low.ensures c.requires.room.0.words in
-    own_plan_from a.t.now a.p a.l.point a.l.bins a.l.ranges a.l.count a.l.transitions a.l.many _ c.has_auto.ensures a.at a.out.now _ _ _ _ low.ensures c.if-has_auto.false c.requires.near.3 e.0 e.1 (omega (arith, e.0, room)) e.2
+    let room : a.at + length (words_at a.t.now low.result a.p 0 a.l.own.bins a.l.own.ranges a.l.own.count) ≤ length a.out.now = rw low.ensures c.requires.room.0.words in
+    own_plan_from a.t.now a.p a.l.point a.l.own.bins a.l.own.ranges a.l.own.count a.l.transitions.at a.l.transitions.count _ c.has_auto.ensures a.at a.out.now _ _ _ _ low.ensures c.if-has_auto.false c.requires.near.3 e.0 e.1 (omega (arith, e.0, room)) e.2

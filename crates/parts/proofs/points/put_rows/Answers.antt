@@ -23,7 +23,7 @@ pub put_point-requires : goal.put_point-requires
 put_point-requires c =
     let a = c.args in
     let s = a.t.now in
-    let d = c.transition_section-l in
+    let d = c.transition_section in
     let near = near-at s c.requires.t_value.0 a.p c.requires.t_value.1 d.result d.ensures.value a.own.bins a.own.ranges a.own.count c.requires.own_part.1 c.requires.own_part.2 c.requires.own_part.3 in
     let fits = fits-at s c.requires.t_value.0 a.p c.requires.t_value.1 a.own.bins a.own.ranges a.own.count c.requires.own_part.0 in
     let room = room_at s c.requires.t_value.0 a.p c.requires.t_value.1 a.own.bins a.own.ranges a.own.count c.requires.own_part.0 a.at a.out.now c.requires.t_value.2 in
@@ -34,5 +34,5 @@ pub returns : goal.returns
 returns c =
     let a = c.args in
     let s = a.t.now in
-    let d = c.transition_section-l in
+    let d = c.transition_section in
     rows_at s c.requires.t_value.0 a.p c.requires.t_value.1 d.result d.ensures.value a.own.bins a.own.ranges a.own.count c.requires.own_part.0 _ _ _ _ _ c.put_point.ensures

@@ -5,4 +5,4 @@ use Rattle.parts.proofs.settled.span_size.Goals as goal
 
 pub overflow_sub-result : goal.overflow_sub-result
 overflow_sub-result c =
-    omega (arith, c.low_end-lo.ensures.0, c.high_end-hi.ensures.0, leb-true (low_end c.args.span) (high_end c.args.span) c.requires)
+    omega (arith, c.low_end.ensures.0, c.high_end.ensures.0, leb-true (low_end c.args.span) (high_end c.args.span) c.requires)

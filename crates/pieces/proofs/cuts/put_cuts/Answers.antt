@@ -23,9 +23,6 @@ put_left-e-requires c =
     let r = c.cut_at-cut.result in
     record { spans_value = (q.spans_value.0, omega (arith, q.spans_value.1), omega (arith, q.spans_value.2.high), omega (arith, q.spans_value.2.high, k.5), omega (arith, q.spans_value.2.room, k.2)); part_in_bounds = written-room _ _ _ _ _ _ l.invariant q.from_in_bounds (piece_words (left_of (free_value a.spans.now a.low) r.low r.high r.part)) (left a.spans.now a.low a.c.lo a.c.hi a.c.before a.c.share a.c.first a.c.top (l.j + 1)) (cuts_turn (free_value a.spans.now a.low) a.c.lo a.c.hi a.c.before a.c.share a.c.first a.c.top l.j _ _ _ k.0 k.1 k.2 (omega arith)) }
 
-pub overflow_add-j : goal.overflow_add-j
-overflow_add-j c = omega (arith, c.requires.spans_value.2.room)
-
 pub loop-j-preserved : goal.loop-j-preserved
 loop-j-preserved c =
     let a = c.args in
@@ -40,3 +37,15 @@ returns c =
     let a = c.args in
     let l = c.loop-j in
     written_end _ _ _ _ _ _ l.invariant (cuts_end (free_value a.spans.now a.low) a.c.lo a.c.hi a.c.before a.c.share a.c.first a.c.top l.j (omega arith))
+
+-- after the last part
+pub returns-2 : goal.returns-2
+returns-2 c =
+    let a = c.args in
+    let q = c.requires in
+    let l = c.loop-j in
+    let k = c.cut_at-cut.ensures in
+    let w = c.put_left-e.ensures in
+    written_end _ _ _ _ _ _
+    (written-turn _ _ _ _ _ _ l.invariant q.from_in_bounds _ (left a.spans.now a.low a.c.lo a.c.hi a.c.before a.c.share a.c.first a.c.top (l.j + 1)) (cuts_turn (free_value a.spans.now a.low) a.c.lo a.c.hi a.c.before a.c.share a.c.first a.c.top l.j _ _ _ k.0 k.1 k.2 (omega arith)) _ _ w.0 w.1)
+    (cuts_end (free_value a.spans.now a.low) a.c.lo a.c.hi a.c.before a.c.share a.c.first a.c.top (l.j + 1) (omega arith))

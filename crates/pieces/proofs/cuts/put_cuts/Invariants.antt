@@ -12,6 +12,3 @@ left spans low lo hi before share first top j = piece_words (cuts_from (free_val
 abbrev pub invariant-loop-j : goal.invariant-loop-j
 invariant-loop-j l =
     Written l.at (left l.spans l.low l.c.lo l.c.hi l.c.before l.c.share l.c.first l.c.top l.c.from) l.initial.out l.e l.out (left l.spans l.low l.c.lo l.c.hi l.c.before l.c.share l.c.first l.c.top l.j)
-
-abbrev pub decreases-loop-j : goal.decreases-loop-j
-decreases-loop-j l = l.c.top + 1 - l.j

@@ -18,8 +18,8 @@ put_piece-requires c =
     let q = c.requires in
     (omega (arith, ap length e, q.part_in_bounds), q.spans_value.3, omega (arith, q.spans_value.4))
 
-pub returns : goal.returns
-returns c =
+pub returns-else-c-a : goal.returns-else-c-a
+returns-else-c-a c =
     let a = c.args in
     let e = left_words (free_value a.spans.now a.low) a.c.low a.c.high a.c.part _ c.free_value-a.ensures.0 (omega arith) in
     as_written a.at _ 2 _ _ a.out.now _ e refl c.put_piece.ensures.0 c.put_piece.ensures.1

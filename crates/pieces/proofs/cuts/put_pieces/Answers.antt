@@ -32,7 +32,7 @@ put_row-e-requires c =
     let r = c.row_at-r.ensures ∙ row_kept _ _ _ _ _ _ l.invariant.0 fit l.invariant.1 (a.from + 7 * l.i) (omega (arith, q.n_bound.1)) in record {
       spans_value = (q.n_bound.2, subst (Cuttable a.low) (sym r) (row_in (Cuttable a.low) (plan_row_at a.out.now) 7 a.from a.n q.n_bound.3 l.i (omega arith)));
       share_in_bounds = written-room _ _ _ _ _ _ l.invariant.0 fit
-          (piece_words (row_pieces (free_value a.spans.now a.low) (row_of o.kind o.low o.high o.before o.first o.last o.share)))
+          (piece_words (row_pieces (free_value a.spans.now a.low) (row_of o)))
           (left a.out.now a.spans.now a.low (a.from + 7 * (l.i + 1)) (a.n - (l.i + 1)))
           (rows_turn (free_value a.spans.now a.low) a.out.now a.from a.n l.i _ r (omega arith));
     }

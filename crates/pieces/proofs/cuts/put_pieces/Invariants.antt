@@ -13,6 +13,3 @@ left w spans low from n = piece_words (all_pieces (free_value spans low) (plan_r
 abbrev pub invariant-loop-i : goal.invariant-loop-i
 invariant-loop-i l =
     Written l.at (left l.initial.out l.spans l.low l.from l.n) l.initial.out l.e l.out (left l.initial.out l.spans l.low (l.from + 7 * l.i) (l.n - l.i)) × (l.at ≤ l.e)
-
-abbrev pub decreases-loop-i : goal.decreases-loop-i
-decreases-loop-i l = l.n - l.i

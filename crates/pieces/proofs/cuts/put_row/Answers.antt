@@ -1,47 +1,57 @@
-use mathlib.Core.Path.{refl, ap}
+use mathlib.Core.Path.{refl, ap, subst, ◌∙◌}
+use mathlib.Core.List.{List}
+use Prim.Native.Nat.{ℕ}
 use native.Mathlib.Omega.{arith}
 use lib.ListN.{length}
 use Rattle.arrays.proofs.Written.{as_written}
 use Rattle.spans.specs.Point.{free_value}
-use Rattle.pieces.proofs.WordLaws.{row_span, row_pattern, row_mask, row-bounds, row_fits}
+use Rattle.parts.specs.declared.rows.Range as range
+use Rattle.parts.specs.Rows.{row}
+use Rattle.parts.specs.Words.{range_of}
+use Rattle.pieces.specs.declared.cuts.Row as code
+use Rattle.pieces.specs.Cuts.{row_pieces, piece_words, Cuttable}
+use Rattle.pieces.proofs.WordLaws.{row_span, row_pattern, row_fits}
 use Rattle.pieces.proofs.cuts.put_row.Goals as goal
+
+-- the words of the row's pieces, and what it asks, by its range
+abbrev words : List ℕ → ℕ → code.Row → range.Range → List ℕ
+words spans low r x = piece_words (row_pieces (free_value spans low) (row (range_of x) r.before r.first r.last r.share))
+
+abbrev Fit : ℕ → code.Row → range.Range → Type 0
+Fit low r x = Cuttable low (row (range_of x) r.before r.first r.last r.share)
 
 pub put_piece-requires : goal.put_piece-requires
 put_piece-requires c =
     let a = c.args in
-    let e = row_pattern (free_value a.spans.now a.low) a.r.kind a.r.low a.r.high a.r.before a.r.first a.r.last a.r.share _ c.capped-from.ensures c.if-r-ne0.true in
+    let r = a.r in
+    let p = c.in-Pattern in
     let q = c.requires in
-    let m = row_mask (free_value a.spans.now a.low) a.r.kind a.r.low a.r.high a.r.before a.r.first a.r.last a.r.share _ c.capped-from.ensures a.low q.spans_value.1 c.if-r-ne0.true in
-    (omega (arith, ap length e, q.share_in_bounds), m, omega (arith, c.capped-from.ensures, q.spans_value.1.room))
+    let e = ap (words a.spans.now a.low r) p.is ∙ row_pattern (free_value a.spans.now a.low) p.bits p.mask r.before r.first r.last r.share _ c.capped-from.ensures in
+    (omega (arith, ap length e, q.share_in_bounds), (subst (Fit a.low r) p.is q.spans_value.1).bounds, omega (arith, c.capped-from.ensures, q.spans_value.1.room))
 
-pub returns-then-r-ne0 : goal.returns-then-r-ne0
-returns-then-r-ne0 c =
+pub returns-in-Pattern : goal.returns-in-Pattern
+returns-in-Pattern c =
     let a = c.args in
+    let r = a.r in
+    let p = c.in-Pattern in
     let w = c.put_piece.ensures in
-    as_written a.at _ 2 _ _ a.out.now _ (row_pattern (free_value a.spans.now a.low) a.r.kind a.r.low a.r.high a.r.before a.r.first a.r.last a.r.share _ c.capped-from.ensures c.if-r-ne0.true) refl w.0 w.1
-
-pub overflow_sub-r : goal.overflow_sub-r
-overflow_sub-r c =
-    let a = c.args in
-    omega (arith, (row-bounds (free_value a.spans.now a.low) a.r.kind a.r.low a.r.high a.r.before a.r.first a.r.last a.r.share _ c.capped-from.ensures a.low c.requires.spans_value.1 c.if-r-ne0.false).1)
-
-pub overflow_add-r-2 : goal.overflow_add-r-2
-overflow_add-r-2 c =
-    let a = c.args in
-    let b = row-bounds (free_value a.spans.now a.low) a.r.kind a.r.low a.r.high a.r.before a.r.first a.r.last a.r.share _ c.capped-from.ensures a.low c.requires.spans_value.1 c.if-r-ne0.false in
-    omega (arith, b.2, c.requires.spans_value.1.before)
+    as_written a.at _ 2 _ _ a.out.now _ (ap (words a.spans.now a.low r) p.is ∙ row_pattern (free_value a.spans.now a.low) p.bits p.mask r.before r.first r.last r.share _ c.capped-from.ensures) refl w.0 w.1
 
 pub put_cuts-requires : goal.put_cuts-requires
 put_cuts-requires c =
     let a = c.args in
+    let r = a.r in
+    let p = c.in-Span in
     let q = c.requires in
-    let z = c.if-r-ne0.false in
-    let s = c.capped-from.ensures in
     let t = c.capped-top.ensures in
-    record { spans_value = (q.spans_value.0, (row-bounds (free_value a.spans.now a.low) a.r.kind a.r.low a.r.high a.r.before a.r.first a.r.last a.r.share _ s a.low q.spans_value.1 z).0, row_fits (free_value a.spans.now a.low) a.r.kind a.r.low a.r.high a.r.before a.r.first a.r.last a.r.share _ s a.low q.spans_value.1 z _ t); from_in_bounds = omega (arith, ap length (row_span (free_value a.spans.now a.low) a.r.kind a.r.low a.r.high a.r.before a.r.first a.r.last a.r.share _ s _ z t), q.share_in_bounds) }
+    let fit = subst (Fit a.low r) p.is q.spans_value.1 in
+    let e = ap (words a.spans.now a.low r) p.is ∙ row_span (free_value a.spans.now a.low) p.lo p.hi r.before r.first r.last r.share _ c.capped-from.ensures _ t in
+    record { spans_value = (q.spans_value.0, fit.bounds.0, row_fits p.lo p.hi r.before r.first r.last r.share a.low fit _ t); from_in_bounds = omega (arith, ap length e, q.share_in_bounds) }
 
-pub returns : goal.returns
-returns c =
+pub returns-in-Span : goal.returns-in-Span
+returns-in-Span c =
     let a = c.args in
+    let r = a.r in
+    let p = c.in-Span in
     let w = c.put_cuts.ensures in
-    as_written a.at _ _ _ _ a.out.now _ (row_span (free_value a.spans.now a.low) a.r.kind a.r.low a.r.high a.r.before a.r.first a.r.last a.r.share _ c.capped-from.ensures _ c.if-r-ne0.false c.capped-top.ensures) refl w.0 w.1
+    as_written a.at _ _ _ _ a.out.now _ (ap (words a.spans.now a.low r) p.is ∙ row_span (free_value a.spans.now a.low) p.lo p.hi r.before r.first r.last r.share _ c.capped-from.ensures _ c.capped-top.ensures) refl w.0 w.1

@@ -2,7 +2,10 @@ use mathlib.Core.Path.{◌≡◌, refl, sym, ap, ap₂, ◌∙◌}
 use mathlib.Core.List.{[], ◌∷◌}
 use Prim.Native.Nat.{ℕ, ◌+◌, ◌-◌, ◌<◌}
 use native.Mathlib.Omega.{arith}
-use lib.ListN.{length, get_or, set}
+use lib.ListN.{length, get_or, set, take, drop}
+use lib.Dec.{eqb}
+use Rattle.std.proofs.lemmas.List.{length-take}
+use Rattle.std.proofs.lemmas.List.Sums.{count_by-le-length}
 use Rattle.model.specs.Counters.{point_counters}
 use Rattle.model.specs.Format.{table_of}
 use Rattle.model.specs.Register.{point_total}
@@ -15,8 +18,8 @@ use Rattle.points.specs.Gates.{picked}
 use Rattle.points.proofs.AllLaws.{few_here}
 use Rattle.points.proofs.KindExact.{start_low}
 use Rattle.points.proofs.ItemLaws.{start_read, end_read}
-use Rattle.points.proofs.GateLaws.{start_within, kinds-long, picked-few}
-use Rattle.points.proofs.CountLaws.{covers-counted, counts_from, counts_start, counts_turn, counts_end}
+use Rattle.points.proofs.GateLaws.{start_within, kinds-long}
+use Rattle.points.proofs.CountLaws.{covers-counted, counted_in, counts_from, counts_start, counts_turn, counts_end}
 use Rattle.points.proofs.counts.put_each.Goals as goal
 
 pub loop-p-init : goal.loop-p-init
@@ -101,8 +104,8 @@ overflow_cast-end c =
     let b = start_read t a.starts.now p.starts_value.0 l.p (omega arith) in
     omega (arith, few, e, few_here s p.t_value.0 l.p h, start_low s p.t_value.0 l.p (omega arith), p.starts_value.1)
 
-pub overflow_sub-end : goal.overflow_sub-end
-overflow_sub-end c =
+pub slice_bounds-covers_in-count : goal.slice_bounds-covers_in-count
+slice_bounds-covers_in-count c =
     let a = c.args in
     let p = c.requires in
     let l = c.loop-p in
@@ -114,8 +117,8 @@ overflow_sub-end c =
     let b = start_read t a.starts.now p.starts_value.0 l.p (omega arith) in
     omega (arith, e, b)
 
-pub count_some-m-requires : goal.count_some-m-requires
-count_some-m-requires c =
+pub slice_bounds-covers_in-start : goal.slice_bounds-covers_in-start
+slice_bounds-covers_in-start c =
     let a = c.args in
     let p = c.requires in
     let l = c.loop-p in
@@ -125,7 +128,20 @@ count_some-m-requires c =
     let h : l.p < point_total t = omega (arith, p.starts_value.1) in
     let e = end_read t a.starts.now p.starts_value.0 l.p h in
     let b = start_read t a.starts.now p.starts_value.0 l.p (omega arith) in
-    (omega (arith, e, b, start_within t l.p h, kinds-long t a.kinds.now p.t_value.3), omega (arith, e, b, few_here s p.t_value.0 l.p h))
+    omega (arith, e, b)
+
+pub slice_bounds-covers_in-end : goal.slice_bounds-covers_in-end
+slice_bounds-covers_in-end c =
+    let a = c.args in
+    let p = c.requires in
+    let l = c.loop-p in
+    let s = a.t.now in
+    let t = table_of s in
+    let few = few_points s p.t_value.0 in
+    let h : l.p < point_total t = omega (arith, p.starts_value.1) in
+    let e = end_read t a.starts.now p.starts_value.0 l.p h in
+    let b = start_read t a.starts.now p.starts_value.0 l.p (omega arith) in
+    omega (arith, e, b, start_within t l.p h, kinds-long t a.kinds.now p.t_value.3)
 
 pub overflow_cast-counts : goal.overflow_cast-counts
 overflow_cast-counts c =
@@ -138,7 +154,8 @@ overflow_cast-counts c =
     let h : l.p < point_total t = omega (arith, p.starts_value.1) in
     let e = end_read t a.starts.now p.starts_value.0 l.p h in
     let b = start_read t a.starts.now p.starts_value.0 l.p (omega arith) in
-    omega (arith, e, b, c.count_some-m.ensures, picked-few a.kinds.now a.kinds.now (get_or a.starts.now (l.p + 1) 0 - get_or a.starts.now l.p 0) (get_or a.starts.now l.p 0), few_here s p.t_value.0 l.p h)
+    let n = get_or a.starts.now (l.p + 1) 0 - get_or a.starts.now l.p 0 in
+    omega (arith, e, b, c.covers_in.ensures, count_by-le-length (λ k. eqb k 0) (take n (drop (get_or a.starts.now l.p 0) a.kinds.now)), length-take n (drop (get_or a.starts.now l.p 0) a.kinds.now), few_here s p.t_value.0 l.p h)
 
 pub offset_bounds-counts-p : goal.offset_bounds-counts-p
 offset_bounds-counts-p c =
@@ -172,8 +189,8 @@ loop-p-preserved c =
     let e = end_read t a.starts.now p.starts_value.0 l.p h in
     let b = start_read t a.starts.now p.starts_value.0 l.p (omega arith) in
     let m : get_or a.starts.now (l.p + 1) 0 - get_or a.starts.now l.p 0 ≡ length (point_counters t l.p) = omega (arith, e, b) in
-    let k : c.count_some-m.result ≡ length (covers t l.p) = c.count_some-m.ensures ∙ ap₂ (λ (x y : ℕ). length (picked a.kinds.now a.kinds.now x y)) b m ∙ covers-counted t l.p h a.kinds.now p.t_value.3 in
-    let r = c.count_some-m.result in
+    let k : c.covers_in.result ≡ length (covers t l.p) = c.covers_in.ensures ∙ counted_in a.kinds.now (get_or a.starts.now l.p 0) (get_or a.starts.now (l.p + 1) 0 - get_or a.starts.now l.p 0) (omega (arith, e, b, start_within t l.p h, kinds-long t a.kinds.now p.t_value.3)) ∙ ap₂ (λ (x y : ℕ). length (picked a.kinds.now a.kinds.now x y)) b m ∙ covers-counted t l.p h a.kinds.now p.t_value.3 in
+    let r = c.covers_in.result in
     let room : l.p < length l.counts = omega (arith, few, p.starts_value.1, p.t_value.1, l.invariant.1.kept) in (
       omega arith,
       written-turn 0 (cover_counts t) a.counts.now l.p l.counts (counts_from t l.p (point_total t - l.p)) l.invariant.1 (omega (arith, counts_length t, few, p.t_value.1)) (r ∷ []) (counts_from t (l.p + 1) (point_total t - (l.p + 1)))

@@ -8,6 +8,3 @@ use Rattle.points.proofs.counts.put_each.Given as goal
 
 abbrev pub invariant-loop-p : goal.invariant-loop-p
 invariant-loop-p l = (l.p ≤ l.n) × Written 0 (cover_counts (table_of l.t)) l.initial.counts l.p l.counts (counts_from (table_of l.t) l.p (point_total (table_of l.t) - l.p))
-
-abbrev pub decreases-loop-p : goal.decreases-loop-p
-decreases-loop-p l = l.n - l.p

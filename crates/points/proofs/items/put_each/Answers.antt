@@ -69,8 +69,8 @@ loop-p-preserved c =
     let z = end_read t a.starts.now p.3 l.p h in
     let m : get_or a.starts.now (l.p + 1) 0 - l.c ≡ length (point_counters t l.p) = omega (arith, z, l.invariant.2) in
     let e : q.result ≡ point_start t (l.p + 1) = start_next t l.p q.result (omega (arith, q.ensures.0, z, l.invariant.2)) in
-    let w = put-turn l.c q.result _ _ _ l.items q.new.flags (items_next t a.n l.p _ (omega arith) m) (items_room s p.0 a.n l.p l.c (length l.items) p.4 l.invariant.0 l.invariant.3 (omega (arith, l.invariant.1, p.1))) (omega (arith, q.ensures.0, length-replicate (get_or a.starts.now (l.p + 1) 0 - l.c) l.p)) q.ensures.1 in
-    (omega arith, q.auto.flags ∙ l.invariant.1, e, omega (arith, e, start_low s p.0 (l.p + 1) (omega (arith, p.4))), w.1 ∙ l.invariant.4)
+    let w = put-turn l.c q.result _ _ _ l.items q.new.xs (items_next t a.n l.p _ (omega arith) m) (items_room s p.0 a.n l.p l.c (length l.items) p.4 l.invariant.0 l.invariant.3 (omega (arith, l.invariant.1, p.1))) (omega (arith, q.ensures.0, length-replicate (get_or a.starts.now (l.p + 1) 0 - l.c) l.p)) q.ensures.1 in
+    (omega arith, q.auto.xs ∙ l.invariant.1, e, omega (arith, e, start_low s p.0 (l.p + 1) (omega (arith, p.4))), w.1 ∙ l.invariant.4)
 
 pub returns : goal.returns
 returns c =

@@ -11,6 +11,3 @@ abbrev pub invariant-loop-p : goal.invariant-loop-p
 invariant-loop-p l =
     (l.p ≤ l.n) × (length l.items ≡ length l.initial.items) × (l.c ≡ point_start (table_of l.t) l.p) × (l.c ≤ 256 * l.p)
     × (put l.c (items_from (table_of l.t) l.p (l.n - l.p)) l.items ≡ put 0 (items_of (table_of l.t) (all_point_counters (table_of l.t))) l.initial.items)
-
-abbrev pub decreases-loop-p : goal.decreases-loop-p
-decreases-loop-p l = l.n - l.p

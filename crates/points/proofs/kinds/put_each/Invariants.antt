@@ -12,6 +12,3 @@ invariant-loop-p l =
     (l.p ≤ l.n) × (length l.kinds ≡ length l.initial.kinds) × (length l.starts ≡ length l.initial.starts) × (l.c ≡ point_start (table_of l.t) l.p) × (l.c ≤ 256 * l.p)
     × (put l.c (kinds_from (table_of l.t) l.p (l.n - l.p)) l.kinds ≡ put 0 (kinds_of (all_point_counters (table_of l.t))) l.initial.kinds)
     × (put l.p (starts_from (table_of l.t) l.p (suc l.n - l.p)) l.starts ≡ put 0 (point_starts (table_of l.t)) l.initial.starts)
-
-abbrev pub decreases-loop-p : goal.decreases-loop-p
-decreases-loop-p l = l.n - l.p

@@ -74,7 +74,7 @@ put_transition_kinds-requires c =
     let m = c.auto_total-m in
     let u = c.put_same-d in
     let room = kind-room a.t.now g.good a.p p.1 a.l g.placed a.own p.2.part low.result has.result m.result low.ensures has.ensures m.ensures.0 in
-    (r.0.transitions_near, r.0.few_transitions, omega (arith, room, p.3, q.ensures.0, q.auto.kinds, u.ensures.0, u.auto.flags))
+    (r.0.transitions_near, r.0.few_transitions, omega (arith, room, p.3, q.ensures.0, q.auto.kinds, u.ensures.0, u.auto.xs))
 
 pub returns : goal.returns
 returns c =
@@ -90,6 +90,6 @@ returns c =
     let few = few_here a.t.now g.good a.p p.1 in
     let long = kinds-length (point_counters (table_of a.t.now) a.p) in
     let z = kind-parts a.t.now g.good a.p p.1 a.l g.placed a.own p.2.part low.result has.result m.result low.ensures has.ensures m.ensures.0 in
-    let w = all-written a.cur q.result u.result v.result _ _ _ _ a.kinds.now q.new.kinds u.new.flags v.new.kinds z (omega (arith, few, long, p.3)) q.ensures.0 q.ensures.1
+    let w = all-written a.cur q.result u.result v.result _ _ _ _ a.kinds.now q.new.kinds u.new.xs v.new.kinds z (omega (arith, few, long, p.3)) q.ensures.0 q.ensures.1
     (u.ensures.0 ∙ ap (q.result +◌) (sym (length-replicate {A = ℕ} m.result 0))) u.ensures.1 v.ensures.0 v.ensures.1 in
     (omega (arith, w.0, long), w.1)

@@ -10,6 +10,3 @@ invariant-loop-i l =
     (l.i ≤ l.n) × (length l.kinds ≡ length l.initial.kinds)
     × (l.c + length (transition_kinds_from l.t l.p l.b l.i (l.n - l.i)) ≡ l.cur + length (transition_kinds_from l.t l.p l.b 0 l.n))
     × (put l.c (transition_kinds_from l.t l.p l.b l.i (l.n - l.i)) l.kinds ≡ put l.cur (transition_kinds_from l.t l.p l.b 0 l.n) l.initial.kinds)
-
-abbrev pub decreases-loop-i : goal.decreases-loop-i
-decreases-loop-i l = l.n - l.i

@@ -5,6 +5,3 @@ use Rattle.points.proofs.transitions.lost_lengths.Given as goal
 
 abbrev pub invariant-loop-i : goal.invariant-loop-i
 invariant-loop-i l = (l.i ≤ l.n) × (lost_lengths l.t l.lens l.p l.b l.i (l.n - l.i) l.lost ≡ lost_lengths l.t l.lens l.p l.b 0 l.n 0)
-
-abbrev pub decreases-loop-i : goal.decreases-loop-i
-decreases-loop-i l = l.n - l.i

@@ -10,6 +10,3 @@ invariant-loop-i l =
     (l.i ≤ l.n) × (length l.flags ≡ length l.initial.flags)
     × (l.c + length (flags_from l.t l.sample l.lens l.e.point l.e.skip l.e.lost l.b l.i (l.n - l.i)) ≡ l.cur + length (flags_from l.t l.sample l.lens l.e.point l.e.skip l.e.lost l.b 0 l.n))
     × (put l.c (flags_from l.t l.sample l.lens l.e.point l.e.skip l.e.lost l.b l.i (l.n - l.i)) l.flags ≡ put l.cur (flags_from l.t l.sample l.lens l.e.point l.e.skip l.e.lost l.b 0 l.n) l.initial.flags)
-
-abbrev pub decreases-loop-i : goal.decreases-loop-i
-decreases-loop-i l = l.n - l.i

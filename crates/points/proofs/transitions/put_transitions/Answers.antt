@@ -1,8 +1,8 @@
-use mathlib.Core.Path.{ap, ◌∙◌}
+use mathlib.Core.Path.{ap, ap₂, ◌∙◌}
+use mathlib.Core.Bool.{Bool}
 use mathlib.Core.List.{List}
 use Prim.Native.Nat.{ℕ, ◌+◌}
 use native.Mathlib.Omega.{arith}
-use lib.Dec.{eqb}
 use lib.ListN.{length}
 use Rattle.arrays.specs.Put.{put}
 use Rattle.points.specs.Transitions.{flags_from, transition_flags}
@@ -13,7 +13,7 @@ unfolding transition_flags
 put_bins-requires c =
     let a = c.args in
     let p = c.requires in
-    let z = ap (λ (x : ℕ). length (flags_from a.t.now a.sample.now a.lens.now a.own.point (eqb a.own.code 8589934592) x a.l.transitions 0 a.l.transition_count)) c.lost_lengths-lost.ensures in
+    let z = ap₂ (λ (b : Bool) (x : ℕ). length (flags_from a.t.now a.sample.now a.lens.now a.own.point b x a.l.transitions 0 a.l.transition_count)) c.is_skipped-skip.ensures c.lost_lengths-lost.ensures in
     (p.0, p.1, p.2, omega (arith, z, p.3))
 
 pub returns : goal.returns
@@ -21,5 +21,5 @@ unfolding transition_flags
 returns c =
     let a = c.args in
     let q = c.put_bins in
-    let z = ap (λ (x : ℕ). flags_from a.t.now a.sample.now a.lens.now a.own.point (eqb a.own.code 8589934592) x a.l.transitions 0 a.l.transition_count) c.lost_lengths-lost.ensures in
+    let z = ap₂ (λ (b : Bool) (x : ℕ). flags_from a.t.now a.sample.now a.lens.now a.own.point b x a.l.transitions 0 a.l.transition_count) c.is_skipped-skip.ensures c.lost_lengths-lost.ensures in
     (q.ensures.0 ∙ ap (λ (x : List ℕ). a.cur + length x) z, q.ensures.1 ∙ ap (λ (x : List ℕ). put a.cur x a.flags.now) z)

@@ -1,33 +1,32 @@
-use mathlib.Core.Path.{◌≡◌, refl, ap, ◌∙◌}
+use mathlib.Core.Path.{◌≡◌, ap, ap₂, ◌∙◌}
+use mathlib.Core.List.{map}
 use Prim.Native.Nat.{ℕ, ◌+◌, ◌-◌}
+use native.Mathlib.Omega.{arith}
+use native.Mathlib.Nat.{add-zero}
 use lib.Dec.{eqb}
-use lib.ListN.{length-set}
-use Rattle.model.specs.Lists.{as_bit}
+use Rattle.model.specs.Lists.{up_from, as_bit}
+use Rattle.arrays.specs.Put.{put}
 use Rattle.arrays.proofs.Written.{fill-turn, fill_end}
 use Rattle.products.specs.Tokens.{named_bit, named_from}
-use native.Mathlib.Omega.{arith}
 use Rattle.products.proofs.leaves.put_named.Goals as goal
 
-pub loop-at-init : goal.loop-at-init
+pub loop-i-init : goal.loop-i-init
 unfolding named_from
-loop-at-init c =
+loop-i-init c =
     let a = c.args in
-    let z : a.row + a.n - a.row ≡ a.n = omega arith in
-    (omega arith, omega arith, omega arith, refl, rw z)
+    let z : a.n - 0 ≡ a.n = omega arith in
+    (omega arith, ap₂ (λ (x y : ℕ). put x (map (named_bit a.lists.now a.b) (up_from y (a.n - 0))) a.leaves.now) (add-zero a.row) (add-zero a.from) ∙ ap (λ (m : ℕ). put a.row (map (named_bit a.lists.now a.b) (up_from a.from m)) a.leaves.now) z)
 
-pub loop-at-preserved : goal.loop-at-preserved
-loop-at-preserved c =
+pub loop-i-preserved : goal.loop-i-preserved
+loop-i-preserved c =
     let a = c.args in
-    let l = c.loop-at in (
-      omega arith,
-      omega arith,
-      omega arith,
-      simp length-set l.invariant.3,
-      fill-turn (named_bit a.lists.now a.b) l.at l.i (a.row + a.n) l.at c.as_bit.result l.leaves _ l.invariant.4 (c.as_bit.ensures ∙ ap (λ (x : ℕ). as_bit (eqb x a.b)) c.element-x.ensures) (omega arith) (omega arith),
-    )
+    let l = c.loop-i in
+    let e : a.row + (l.i + 1) ≡ a.row + l.i + 1 = omega arith in
+    let f : a.from + (l.i + 1) ≡ a.from + l.i + 1 = omega arith in
+    (omega arith, rw (e, f) (fill-turn (named_bit a.lists.now a.b) (a.row + l.i) (a.from + l.i) a.n l.i c.as_bit.result l.leaves _ l.invariant.1 (c.as_bit.ensures ∙ ap (λ (x : ℕ). as_bit (eqb x a.b)) c.element.ensures) c.loop-i-test.true (omega arith)))
 
 pub returns : goal.returns
 returns c =
     let a = c.args in
-    let l = c.loop-at in
-    fill_end (named_bit a.lists.now a.b) l.at l.i (a.row + a.n) l.at l.leaves _ l.invariant.4 (omega arith)
+    let l = c.loop-i in
+    fill_end (named_bit a.lists.now a.b) (a.row + l.i) (a.from + l.i) a.n l.i l.leaves _ l.invariant.1 c.loop-i-test.false

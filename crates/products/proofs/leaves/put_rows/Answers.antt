@@ -9,7 +9,7 @@ use Rattle.products.proofs.leaves.put_rows.Goals as goal
 pub loop-j-init : goal.loop-j-init
 loop-j-init c =
     let a = c.args in
-    (omega arith, refl, no_rows (table_of a.t.now) a.t.now a.k.cross a.k.at a.leaves.now)
+    (omega arith, refl, no_rows (table_of a.plan.table.now) a.plan.table.now a.k.cross a.k.at a.leaves.now)
 
 pub put_row-requires : goal.put_row-requires
 unfolding TokensLegal
@@ -22,12 +22,12 @@ pub loop-j-preserved : goal.loop-j-preserved
 unfolding TokensLegal
 loop-j-preserved c =
     let a = c.args in
-    let s = a.t.now in
+    let s = a.plan.table.now in
     let l = c.loop-j in
     let pre = c.requires in (
       omega arith,
       c.put_row.auto.leaves ∙ l.invariant.1,
-      rows_more (table_of s) s a.k.cross a.k.at l.j (λ j h. parts_few s a.k.cross (a.k.at + 20 * j) a.s a.plan.now a.lists.now pre.ready.0 (pre.ready.1 j (omega arith)))
+      rows_more (table_of s) s a.k.cross a.k.at l.j (λ j h. parts_few s a.k.cross (a.k.at + 20 * j) a.s a.plan.words.now a.plan.lists.now pre.ready.0 (pre.ready.1 j (omega arith)))
           l.leaves c.put_row.new.leaves l.invariant.2 c.put_row.ensures.0 c.put_row.ensures.1,
     )
 

@@ -3,7 +3,8 @@ use Prim.Native.Nat.{ℕ, ◌+◌, ◌*◌}
 use native.Mathlib.Omega.{arith}
 use lib.ListN.{get_or}
 use Rattle.products.specs.Marks.{Below, add_of}
-use Rattle.operators.proofs.Rewriting.{mapped-start, mapped_turn, mapped_says}
+use Rattle.operators.specs.Operators.{Says}
+use Rattle.operators.proofs.Rewriting.{mapped-start, mapped_turn}
 use Rattle.products.proofs.Adding.{bit-fits}
 use Rattle.products.proofs.marks.add_bit.Goals as goal
 
@@ -42,4 +43,5 @@ loop-x-preserved c =
     (omega arith, mapped_turn _ l.x _ l.marks l.invariant.1 _ (ap (λ (y : ℕ). y + a.weight * get_or a.stack.now l.x 0) (l.invariant.1.left l.x (omega arith))) (omega arith))
 
 pub returns : goal.returns
-returns c = mapped_says _ _ _ _ c.loop-x.invariant.1 _ (omega arith)
+unfolding Says
+returns c x h = c.loop-x.invariant.1.done x (omega arith)

@@ -1,5 +1,5 @@
 use mathlib.Core.Path.{◌≡◌, ap}
-use Prim.Native.Nat.{◌-◌}
+use Prim.Native.Nat.{◌-◌, max}
 use native.Mathlib.Omega.{arith}
 use Rattle.products.specs.Marks.{longest}
 use Rattle.products.proofs.Longest.{longest-none, longest_turn}
@@ -26,8 +26,9 @@ pub loop-i-preserved : goal.loop-i-preserved
 loop-i-preserved c =
     let a = c.args in
     let l = c.loop-i in
-    let m = c.byte-m in
-    (omega arith, omega (arith, l.invariant.1), omega (arith, c.larger-most.ensures, l.invariant.2, longest_turn a.t.now l.bin c.byte-n.result l.i c.loop-i-test.true m.result m.ensures))
+    let m = c.byte in
+    let e : c.max-most.result ≡ max l.most m.result = c.max-most.ensures in
+    (omega arith, omega (arith, l.invariant.1), omega (arith, e, l.invariant.2, longest_turn a.t.now l.bin c.byte-n.result l.i c.loop-i-test.true m.result m.ensures))
 
 pub returns : goal.returns
 returns c =

@@ -10,7 +10,4 @@ use Rattle.products.proofs.marks.mark_in.Given as goal
 abbrev pub invariant-loop-i : goal.invariant-loop-i
 invariant-loop-i l =
     (l.i ≤ l.n) × (l.bin ≡ l.initial.bin + 3 * l.i) × (l.token ≤ l.initial.token + 640 * l.i) × (length l.marks ≡ length l.initial.marks) × (length l.stack ≡ length l.initial.stack) × (length l.leaves ≡ length l.initial.leaves) × (l.weight ≡ 2 ^ l.i)
-    × BinsSingle l.t l.bin l.token (l.n - l.i) × BinsLegal l.t l.at l.bin l.token (l.n - l.i) × Rest (table_of l.t) l.t l.at l.initial.bin l.initial.token l.n l.bin l.token (l.n - l.i) l.weight l.total l.marks × (longest l.t l.bin (l.n - l.i) ≤ longest l.t l.initial.bin l.n)
-
-abbrev pub decreases-loop-i : goal.decreases-loop-i
-decreases-loop-i l = l.n - l.i
+    × BinsSingle l.plan.table.now l.bin l.token (l.n - l.i) × BinsLegal l.plan.table.now l.at l.bin l.token (l.n - l.i) × Rest (table_of l.plan.table.now) l.plan.table.now l.at l.initial.bin l.initial.token l.n l.bin l.token (l.n - l.i) l.weight l.total l.marks × (longest l.plan.table.now l.bin (l.n - l.i) ≤ longest l.plan.table.now l.initial.bin l.n)

@@ -29,9 +29,9 @@ loop-d-preserved c =
     let room = row_room a.size a.inner l.d (length l.out) (omega arith) (omega arith) in
     let put-there = wrote.ensures.1 ∙ ap (λ (x : ℕ). put x (replicate a.inner bit.result) l.out) l.invariant.2 in (
       omega arith,
-      wrote.auto.flags ∙ l.invariant.1,
+      wrote.auto.xs ∙ l.invariant.1,
       omega (arith, wrote.ensures.0, l.invariant.2),
-      row_turn a.leaves.now a.row a.inner l.d b.result bit.result b.ensures bit.ensures l.out wrote.new.flags room put-there l.invariant.3,
+      row_turn a.leaves.now a.row a.inner l.d b.result bit.result b.ensures bit.ensures l.out wrote.new.xs room put-there l.invariant.3,
     )
 
 pub returns : goal.returns

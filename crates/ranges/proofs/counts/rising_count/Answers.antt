@@ -52,8 +52,8 @@ loop-i-preserved c =
     let a = c.args in (
       search rules,
       search rules,
-      omega (arith, c.least-count.ensures),
-      rising-on a.t.now a.n l.i l.at _ l.x l.count l.invariant.3 (search rules) _ _ c.span_at-s.ensures (sym c.in_order.ensures ∙ c.if-not-in_order.false) c.least-count.result c.least-count.ensures,
+      omega (arith, c.min-count.ensures),
+      rising-on a.t.now a.n l.i l.at _ l.x l.count l.invariant.3 (search rules) _ _ c.span_at-s.ensures (sym c.in_order.ensures ∙ c.if-not-in_order.false) c.min-count.result c.min-count.ensures,
     )
 
 pub returns : goal.returns

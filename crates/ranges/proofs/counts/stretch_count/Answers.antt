@@ -15,28 +15,28 @@ returns-then-first-ge8589934592 c =
     )
 
 pub overflow_add-last : goal.overflow_add-last
-overflow_add-last c = omega (arith, last-small _ _ _ _ c.if-first-ge8589934592.false c.least.ensures c.larger-last.ensures)
+overflow_add-last c = omega (arith, last-small _ _ _ _ c.if-first-ge8589934592.false c.min.ensures c.max-last.ensures)
 
 pub overflow_sub-last : goal.overflow_sub-last
-overflow_sub-last c = omega (arith, max-left _ _ _ c.larger-last.ensures)
+overflow_sub-last c = omega (arith, max-left _ _ _ c.max-last.ensures)
 
 pub overflow_add-count : goal.overflow_add-count
-overflow_add-count c = omega (arith, last-small _ _ _ _ c.if-first-ge8589934592.false c.least.ensures c.larger-last.ensures)
+overflow_add-count c = omega (arith, last-small _ _ _ _ c.if-first-ge8589934592.false c.min.ensures c.max-last.ensures)
 
 pub overflow_add-x : goal.overflow_add-x
-overflow_add-x c = omega (arith, last-small _ _ _ _ c.if-first-ge8589934592.false c.least.ensures c.larger-last.ensures)
+overflow_add-x c = omega (arith, last-small _ _ _ _ c.if-first-ge8589934592.false c.min.ensures c.max-last.ensures)
 
 pub loop-count-smaller : goal.loop-count-smaller
 loop-count-smaller c =
-    more-counted c.loop-count.count c.stretch_from-s.result.first c.larger-last.result c.least-count.result (search rules) (max-left _ _ _ c.larger-last.ensures) c.least-count.ensures
+    more-counted c.loop-count.count c.stretch_from-s.result.first c.max-last.result c.min-count.result (search rules) (max-left _ _ _ c.max-last.ensures) c.min-count.ensures
 
 pub loop-count-preserved : goal.loop-count-preserved
 loop-count-preserved c =
     let l = c.loop-count in
     let a = c.args in (
-      omega (arith, c.least-count.ensures),
-      omega (arith, last-small _ _ _ _ c.if-first-ge8589934592.false c.least.ensures c.larger-last.ensures),
-      stretch_on (ranges_at a.t.now a.start a.n) l.x _ l.count l.invariant.2 c.stretch_from-s.result c.stretch_from-s.ensures (search rules) c.least.result c.larger-last.result c.least-count.result c.if-first-ge8589934592.false c.least.ensures c.larger-last.ensures c.least-count.ensures,
+      omega (arith, c.min-count.ensures),
+      omega (arith, last-small _ _ _ _ c.if-first-ge8589934592.false c.min.ensures c.max-last.ensures),
+      stretch_on (ranges_at a.t.now a.start a.n) l.x _ l.count l.invariant.2 c.stretch_from-s.result c.stretch_from-s.ensures (search rules) c.min.result c.max-last.result c.min-count.result c.if-first-ge8589934592.false c.min.ensures c.max-last.ensures c.min-count.ensures,
     )
 
 pub returns : goal.returns

@@ -15,5 +15,5 @@ pattern_from-half-requires t c = (omega arith, (omega arith, omega arith))
 pub returns : goal.returns
 returns t c =
     let a = c.args in
-    let e = pattern_half a.n a.bits a.mask a.x c.less-from.result c.pattern_from-half.result c.larger.result (omega arith) c.less-from.ensures c.pattern_from-half.ensures.0 c.larger.ensures in
-    (e, pattern-near a.n a.bits a.mask a.x c.larger.result (omega arith) e)
+    let e = pattern_half a.n a.bits a.mask a.x c.saturating_sub-from.result c.pattern_from-half.result c.max.result (omega arith) c.saturating_sub-from.ensures c.pattern_from-half.ensures.0 c.max.ensures in
+    (e, pattern-near a.n a.bits a.mask a.x c.max.result (omega arith) e)

@@ -1,6 +1,7 @@
 use Rattle.std.proofs.Common.{◌≡◌, ◌≤◌, ℕ, List, length, take, sym, ap, subst, ◌∙◌, arith}
 use Rattle.arrays.specs.Put.{put}
 use Rattle.arrays.proofs.PutLaws.{front-put}
+use Rattle.refusals.specs.Numbers.{number_in}
 use Rattle.turns.specs.declared.Taken.{Taken}
 use Rattle.turns.specs.Batch.{batch}
 use Rattle.turns.specs.Turns.{Took}
@@ -12,7 +13,7 @@ use Rattle.replay.proofs.entries.give_samples.Goals as goal
 front : (v l m : List ℕ) (n : ℕ) → l ≡ put 0 v m → n ≡ length v → n ≤ length m → take n l ≡ v
 front v l m n e k h = ap (take n) e ∙ front-put n v m (sym k) h
 
-took : (t g p v x w r : List ℕ) (a : Taken) → x ≡ v → a.number ≡ (batch t g x p).number → a.taken ≡ (batch t g x p).taken → w ≡ (batch t g x p).words → r ≡ (batch t g x p).reports → Took (batch t g v p) a w r
+took : (t g p v x w r : List ℕ) (a : Taken) → x ≡ v → number_in a.end ≡ (batch t g x p).number → a.taken ≡ (batch t g x p).taken → w ≡ (batch t g x p).words → r ≡ (batch t g x p).reports → Took (batch t g v p) a w r
 took t g p v x w r a e number taken words reports =
     subst (λ (y : List ℕ). Took (batch t g y p) a w r) e (record { number = number; taken = taken; words = words; reports = reports })
 

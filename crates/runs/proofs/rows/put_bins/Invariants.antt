@@ -11,6 +11,3 @@ abbrev pub invariant-loop-i : goal.invariant-loop-i
 invariant-loop-i l =
     Bins l.t l.b l.initial.sequence l.initial.place.steps l.initial.place.ranges l.n l.i l.sequence l.place.steps l.place.ranges
     × Written l.at (concat_of bin_row (transitions_at l.t l.b l.initial.sequence l.initial.place.steps l.initial.place.ranges l.n)) l.initial.plan l.place.at l.plan (concat_of bin_row (transitions_at l.t (l.b + 4 * l.i) l.sequence l.place.steps l.place.ranges (l.n - l.i)))
-
-abbrev pub decreases-loop-i : goal.decreases-loop-i
-decreases-loop-i l = l.n - l.i

@@ -9,6 +9,3 @@ use Rattle.runs.proofs.rows.put_ranges.Given as goal
 abbrev pub invariant-loop-i : goal.invariant-loop-i
 invariant-loop-i l =
     (l.i ≤ l.n) × Written l.at (concat_of (range_words l.bit) (ranges_at l.t l.r l.n)) l.initial.plan (l.at + 4 * l.i) l.plan (concat_of (range_words l.bit) (ranges_at l.t (l.r + 17 * l.i) (l.n - l.i)))
-
-abbrev pub decreases-loop-i : goal.decreases-loop-i
-decreases-loop-i l = l.n - l.i

@@ -9,8 +9,5 @@ use Rattle.runs.proofs.rows.put_rows.Given as goal
 
 abbrev pub invariant-loop-i : goal.invariant-loop-i
 invariant-loop-i l =
-    Walk l.t l.q l.initial.steps l.initial.ranges l.n l.i l.steps l.ranges
-    × Written l.initial.at (concat_of sequence_row (sequences_at l.t l.q l.initial.steps l.initial.ranges l.n)) l.initial.plan l.at l.plan (concat_of sequence_row (sequences_at l.t (l.q + l.i) l.steps l.ranges (l.n - l.i)))
-
-abbrev pub decreases-loop-i : goal.decreases-loop-i
-decreases-loop-i l = l.n - l.i
+    Walk l.t l.q l.initial.c.steps l.initial.c.ranges l.n l.i l.c.steps l.c.ranges
+    × Written l.initial.c.at (concat_of sequence_row (sequences_at l.t l.q l.initial.c.steps l.initial.c.ranges l.n)) l.initial.plan l.c.at l.plan (concat_of sequence_row (sequences_at l.t (l.q + l.i) l.c.steps l.c.ranges (l.n - l.i)))

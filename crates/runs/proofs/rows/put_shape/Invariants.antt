@@ -8,6 +8,3 @@ use Rattle.runs.proofs.rows.put_shape.Given as goal
 abbrev pub invariant-loop-i : goal.invariant-loop-i
 invariant-loop-i l =
     (l.i ≤ l.n) × (l.total ≤ 255 * l.i) × (l.total + mosts_at l.t (l.p + 3 * l.i) (l.n - l.i) ≡ mosts_at l.t l.p l.n) × Written l.at (shape_at l.t l.p l.n) l.initial.plan (l.at + 2 * l.i) l.plan (shape_at l.t (l.p + 3 * l.i) (l.n - l.i))
-
-abbrev pub decreases-loop-i : goal.decreases-loop-i
-decreases-loop-i l = l.n - l.i

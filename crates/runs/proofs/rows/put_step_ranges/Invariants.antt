@@ -10,6 +10,3 @@ abbrev pub invariant-loop-i : goal.invariant-loop-i
 invariant-loop-i l =
     (l.i ≤ l.n) × (l.total ≤ 255 * l.i) × (l.total + range_total l.t (l.p + 3 * l.i) (l.n - l.i) ≡ range_total l.t l.p l.n)
     × Written l.at (step_ranges 0 (steps_at l.t l.p l.r l.n)) l.initial.plan (l.at + 4 * l.total) l.plan (step_ranges l.i (steps_at l.t (l.p + 3 * l.i) (l.r + 17 * l.total) (l.n - l.i)))
-
-abbrev pub decreases-loop-i : goal.decreases-loop-i
-decreases-loop-i l = l.n - l.i

@@ -18,7 +18,7 @@ loop-i-preserved c =
     let l = c.loop-i in
     let w = a.ranges.now in
     let h : l.i < length w / 4 = omega arith in
-    (omega arith, bits-turn w a.v l.i (length w / 4) l.r c.bit_if-r.result h (c.bit_if-r.ensures ∙ ap (λ (b : Bool). cond b (get_or w (4 * l.i) 0) 0) c.holds-h.ensures) ∙ l.invariant.1)
+    (omega arith, bits-turn w a.v l.i (length w / 4) l.r c.pick-r.result h (c.pick-r.ensures ∙ ap (λ (b : Bool). cond b (get_or w (4 * l.i) 0) 0) c.holds-h.ensures) ∙ l.invariant.1)
 
 pub returns : goal.returns
 returns c =

@@ -9,7 +9,6 @@ use Rattle.model.specs.Format.{table_of}
 use Rattle.runs.specs.Rows.{sequence_row, bin_row, Stands}
 use Rattle.runs.proofs.Ready.{point_few, sequences_fit}
 use Rattle.runs.proofs.RowLaws.{length-row}
-use Rattle.runs.proofs.RowSizes.{length-rows}
 use Rattle.runs.proofs.Standing.{RowAt, row_fits, bin_at}
 use Rattle.runs.proofs.Taking.{taking_start, taking-here, taking-turn, taking-end, bin-taken}
 use native.Mathlib.Omega.{arith}
@@ -34,7 +33,7 @@ here : (c : In-loop-i) →
 here c =
     let a = c.args in
     let l = c.loop-i in
-    taking-here (transition_bin_at (table_of a.t.now) a.b).sequences _ a.plan.now (a.place.row + 2) a.place.words a.register.now l.i l.next.row l.next.words l.lengths l.register l.invariant (omega (arith, (at_head c.before.before.before.before.before.before.before.before.before.before).1)) c.requires.4
+    taking-here (transition_bin_at (table_of a.t.now) a.b).sequences _ a.plan.now (a.place.row + 2) a.place.words a.register.now l.i l.next.row l.next.words l.lengths l.register l.invariant (omega (arith, (at_head c.before.before.before.before.before.before.before.before.before).1)) c.requires.4
 
 pub bounds-plan-from : goal.bounds-plan-from
 bounds-plan-from c = omega (arith, c.requires.3.1, (at_head (goal.at.bounds-plan-from c).Start).3)
@@ -69,11 +68,6 @@ take_row-e-requires c =
     let l = c.loop-i in
     let h = here (goal.at.take_row-e-requires c).In-loop-i in
     (row_fits _ l.next.row _ h.0 h.1 h.2, omega (arith, h.0.words, h.3))
-
-pub overflow_add-i : goal.overflow_add-i
-overflow_add-i c =
-    let at = at_head (goal.at.overflow_add-i c).Start in
-    omega (arith, at.1, at.2.1, length-rows (transition_bin_at (table_of c.args.t.now) c.args.b).sequences)
 
 pub loop-i-preserved : goal.loop-i-preserved
 loop-i-preserved c =

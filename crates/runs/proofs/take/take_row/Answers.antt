@@ -1,5 +1,5 @@
 -- `take::take_row` meets its contract. Assumes nothing.
-use Rattle.runs.specs.Runs.{reading_from}
+use Rattle.arrays.specs.Flat.{reading_from}
 use Rattle.runs.proofs.Standing.{row_asked, row-past, shape-part, ranges-part, row-taken}
 use Rattle.runs.proofs.take.take_row.Goals as goal
 
@@ -15,4 +15,4 @@ returns c =
     let at = a.place.row in
     let l = a.register.now in
     let from = a.place.words in
-    let e = c.take_sequence-lengths in record { row_value = λ ss h. row-past w at l from ss h; register_after = λ ss h. row-taken w at l from ss h (reading_from a.code) e.result e.new.words c.requires.1 (e.ensures ss (shape-part w at l from ss h) (ranges-part w at l from ss h)) }
+    let e = c.take_sequence-lengths in record { row_value = λ ss h. row-past w at l from ss h; register_after = λ ss h. row-taken w at l from ss h (reading_from a.reading) e.result e.new.words c.requires.1 (e.ensures ss (shape-part w at l from ss h) (ranges-part w at l from ss h)) }

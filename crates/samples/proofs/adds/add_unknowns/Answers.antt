@@ -1,7 +1,11 @@
-use mathlib.Core.Path.{refl, sym, ◌∙◌}
+use mathlib.Core.Path.{refl, sym, ap, ◌∙◌}
+use mathlib.Core.Bool.{Bool}
+use Prim.Native.Nat.{◌+◌}
 use native.Mathlib.Omega.{arith}
 use native.Mathlib.Nat.{sub-zero, add-zero}
-use lib.ListN.{length-set}
+use lib.ListN.{get_or, length-set}
+use Rattle.model.specs.Lists.{as_bit}
+use Rattle.arrays.specs.declared.reading.Reading.TheVariants.{Skipped}
 use Rattle.samples.specs.Adds.{is_unknown_code}
 use Rattle.samples.proofs.AddLaws.{add_start, add_turn, add-end, room_here, room_on}
 use Rattle.samples.proofs.adds.add_unknowns.Goals as goal
@@ -25,7 +29,7 @@ loop-i-preserved c =
       omega arith,
       simp length-set l.invariant.1,
       room_on is_unknown_code a.readings.now l.register a.at l.i a.n (omega arith) v (omega arith) l.invariant.2,
-      add_turn is_unknown_code a.readings.now l.register a.at l.i a.n (omega arith) v (omega arith) (omega arith) c.raised.ensures ∙ l.invariant.3,
+      add_turn is_unknown_code a.readings.now l.register a.at l.i a.n (omega arith) Skipped v (omega arith) (omega arith) (c.raised.ensures ∙ ap (λ (b : Bool). as_bit b + get_or l.register (a.at + l.i) 0) c.is_unknown.ensures) ∙ l.invariant.3,
     )
 
 pub returns : goal.returns

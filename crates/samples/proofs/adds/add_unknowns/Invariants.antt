@@ -11,6 +11,3 @@ abbrev pub invariant-loop-i : goal.invariant-loop-i
 invariant-loop-i l =
     (l.i ≤ l.n) × (length l.register ≡ length l.initial.register) × (all_room (take (l.n - l.i) (drop (l.at + l.i) l.register)) ≡ true)
     × (put (l.at + l.i) (add_hits is_unknown_code (take (l.n - l.i) (drop l.i l.readings)) (take (l.n - l.i) (drop (l.at + l.i) l.register))) l.register ≡ put l.at (add_hits is_unknown_code (take l.n l.readings) (take l.n (drop l.at l.initial.register))) l.initial.register)
-
-abbrev pub decreases-loop-i : goal.decreases-loop-i
-decreases-loop-i l = l.n - l.i

@@ -11,6 +11,3 @@ invariant-loop-i l =
     (l.i ≤ l.n) × (l.j ≤ length l.hits) × (length l.report ≡ length l.initial.report)
     × (l.i < l.n → (x : ℕ) → get_or l.illegals l.i 0 ≤ x → one_of x (drop l.j l.hits) ≡ one_of x l.hits)
     × (put l.i (hit_bits (drop l.i l.illegals) l.hits) l.report ≡ put 0 (hit_bits l.illegals l.hits) l.initial.report)
-
-abbrev pub decreases-loop-i : goal.decreases-loop-i
-decreases-loop-i l = l.n - l.i

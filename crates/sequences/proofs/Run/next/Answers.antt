@@ -1,5 +1,5 @@
 use mathlib.Core.Path.{◌≡◌, refl, ap, sym, ◌∙◌}
-use Prim.Native.Nat.{◌+◌, ◌<◌}
+use Prim.Native.Nat.{◌+◌, ◌*◌, ◌<◌}
 use native.Mathlib.Omega.{arith}
 use borrow.Author.Rules.{rules}
 use lib.ListN.{length, drop, get_or}
@@ -14,18 +14,18 @@ long : (c : After-old-1) → length c.args.self.words ≡ 32
 long c = search rules
 
 -- a step has two numbers
-two : (c : In-loop-s) → c.loop-s.s + 1 < length c.args.shape.now
+two : (c : In-loop-s) → 2 * c.loop-s.s + 1 < length c.args.shape.now
 two c = let e = c.requires.even in omega arith
 
 -- the mosts that are left: this step's, and the rest
 turn : (c : In-loop-s) →
     let shape = c.args.shape.now in
     let s = c.loop-s.s in
-    words_of (drop s shape) ≡ get_or shape (s + 1) 0 + words_of (drop (s + 2) shape)
-turn c = mosts_turn c.args.shape.now c.loop-s.s (two c)
+    words_of (drop (2 * s) shape) ≡ get_or shape (2 * s + 1) 0 + words_of (drop (2 * s + 2) shape)
+turn c = mosts_turn c.args.shape.now (2 * c.loop-s.s) (two c)
 
 pub loop-s-init : goal.loop-s-init
-loop-s-init c = (refl, refl, omega arith, refl)
+loop-s-init c = (refl, omega arith, refl)
 
 pub bounds-shape-s-in-loop-s : goal.bounds-shape-s-in-loop-s
 bounds-shape-s-in-loop-s c = two (goal.at.bounds-shape-s-in-loop-s c).In-loop-s
@@ -49,20 +49,21 @@ loop-s-preserved c =
     let a = c.args in
     let n = long (goal.at.loop-s-preserved c).After-old-1 in
     let w = c.step_words in
-    let t = turn (goal.at.loop-s-preserved c).In-loop-s in (
+    let t = turn (goal.at.loop-s-preserved c).In-loop-s in
+    let e : 2 * (l.s + 1) ≡ 2 * l.s + 2 = omega arith in (
       w.auto.words ∙ l.invariant.0,
-      omega arith,
-      omega arith,
-      shape_turn a.shape.now l.s l.at l.left l.enter (longer c.complete-enter.result) a.self.words l.words w.new.words
+      rw e (omega arith),
+      rw e (shape_turn a.shape.now (2 * l.s) l.at l.left l.enter (longer c.complete-enter.result) a.self.words l.words w.new.words
           (two (goal.at.loop-s-preserved c).In-loop-s) (omega arith) (omega arith) w.ensures (ap longer c.complete-enter.ensures)
-          ∙ l.invariant.3,
+          ∙ l.invariant.2),
     )
 
 pub returns : goal.returns
 returns c =
     let l = c.loop-s in
     let a = c.args in
+    let v = c.requires.even in
     λ ss r e d.
-    sym (shape-end a.shape.now l.s l.at l.left l.enter (drop l.at a.self.words) l.words (omega arith))
-    ∙ l.invariant.3
+    sym (shape-end a.shape.now (2 * l.s) l.at l.left l.enter (drop l.at a.self.words) l.words (omega arith))
+    ∙ l.invariant.2
     ∙ run-shape a.shape.now a.admitted ss r a.self.words c.requires (long (goal.at.returns c).After-old-1) e d

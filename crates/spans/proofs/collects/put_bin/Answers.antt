@@ -20,7 +20,7 @@ returns-then-takes c =
     let e = taken_yes a.t.now a.b a.r a.p _ c.takes.ensures n.result c.if-takes.true n.ensures in
     bin-put a.low a.at n.result _ _ _ a.out.now _ e (length-ranges a.t.now a.r n.result) c.put_ranges.ensures.0 c.put_ranges.ensures.1
 
-pub returns : goal.returns
-returns c =
+pub returns-else-takes : goal.returns-else-takes
+returns-else-takes c =
     let a = c.args in
     bin-not a.low a.at _ a.out.now (taken_no a.t.now a.b a.r a.p _ c.takes.ensures c.if-takes.false)

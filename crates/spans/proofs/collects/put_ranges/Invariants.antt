@@ -10,8 +10,5 @@ use Rattle.spans.proofs.collects.put_ranges.Given as goal
 
 abbrev pub invariant-loop-i : goal.invariant-loop-i
 invariant-loop-i l =
-    (l.i ≤ l.n) × (l.r ≤ l.start + 17 * l.i) × (length l.out ≡ length l.initial.out) × (all (fits_from l.low) (ranges_at l.t l.r (l.n - l.i)) ≡ true)
-    × (put (l.at + l.i) (words_from l.low (ranges_at l.t l.r (l.n - l.i))) l.out ≡ put l.at (words_from l.low (ranges_at l.t l.start l.n)) l.initial.out)
-
-abbrev pub decreases-loop-i : goal.decreases-loop-i
-decreases-loop-i l = l.n - l.i
+    (l.i ≤ l.n) × (length l.out ≡ length l.initial.out) × (all (fits_from l.low) (ranges_at l.t (l.start + 17 * l.i) (l.n - l.i)) ≡ true)
+    × (put (l.at + l.i) (words_from l.low (ranges_at l.t (l.start + 17 * l.i) (l.n - l.i))) l.out ≡ put l.at (words_from l.low (ranges_at l.t l.start l.n)) l.initial.out)

@@ -1,20 +1,13 @@
-use Prim.Native.Nat.{◌/◌}
-use native.Mathlib.Omega.{arith}
-use Rattle.spans.proofs.LookLaws.{halve, halved}
+use lib.Dec.{leb}
+use borrow.Author.Rules.{rules}
+use Rattle.std.proofs.lemmas.List.Sorted.{IsPartitionPoint-from_clause}
+use Rattle.spans.specs.Spans.{low_end}
+use Rattle.spans.proofs.LookLaws.{parted, begun-at}
 use Rattle.spans.proofs.lookup.begun.Goals as goal
-
-pub returns-then-n-eq0 : goal.returns-then-n-eq0
-returns-then-n-eq0 c = record { most = omega arith; below = λ k h. absurd (omega arith); above = λ k h l. absurd (omega arith) }
-
-pub loop-size-init : goal.loop-size-init
-loop-size-init c = (omega arith, record { within = omega arith; below = λ k h. absurd (omega arith); above = λ k h l. absurd (omega arith) })
-
-pub loop-size-preserved : goal.loop-size-preserved
-loop-size-preserved c =
-    let l = c.loop-size in
-    (omega arith, halve c.args.spans.now c.requires c.args.x l.base l.size (l.size / 2) l.invariant.1 (omega arith) (omega arith) _ c.begins-b.ensures _ c.pick-base.ensures)
 
 pub returns : goal.returns
 returns c =
-    let l = c.loop-size in
-    halved c.args.spans.now c.requires c.args.x l.base l.size l.invariant.1 (omega arith) (omega arith) _ c.begins-b-2.ensures _ c.pick.ensures
+    let a = c.args in
+    let p = c.partition_point in
+    begun-at a.spans.now c.requires a.x p.result p.ensures.bound
+    (IsPartitionPoint-from_clause (λ w. leb (low_end w) a.x) _ _ p.ensures.partitioned (parted a.spans.now c.requires a.x) (λ b r q k. search rules))

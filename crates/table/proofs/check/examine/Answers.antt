@@ -1,28 +1,39 @@
+use mathlib.Core.Path.{◌≡◌, ◌∙◌, sym, subst}
 use native.Mathlib.Omega.{arith}
-use Rattle.table.proofs.Outcome.{faulty-found, faulty-is, too_long, sections-stop, left_over, readable, examined-whole, examined-over}
+use Rattle.std.proofs.Common.{rules, None}
+use Rattle.words.proofs.Laws.{handed}
+use Rattle.table.specs.Check.{ExaminedOf}
+use Rattle.table.proofs.Outcome.{too_long, sections-stop, left_over, readable, all-passed, over-limits, within-known, limits-broken}
+use Rattle.table.proofs.MeasureLaws.{facts-whole, facts-refused}
 use Rattle.table.proofs.check.examine.Goals as goal
 
 pub returns-then-len-gt65536 : goal.returns-then-len-gt65536
-returns-then-len-gt65536 c = faulty-is _ 0 _ _ c.fault.ensures (too_long _ (omega arith)) _ c.faulty.ensures
+returns-then-len-gt65536 c =
+    let e = too_long _ (omega arith) in
+    (e, facts-refused _ _ e)
 
-pub returns-then-r-ne0 : goal.returns-then-r-ne0
-returns-then-r-ne0 c =
-    faulty-found _ _ c.if-r-ne0.true (sections-stop _ c.if-len-gt65536.false _ c.sections-r.ensures c.if-r-ne0.true) _ c.faulty-then-r-ne0.ensures
+pub returns-in_err-end : goal.returns-in_err-end
+returns-in_err-end c =
+    let e = sections-stop _ c.if-len-gt65536.false _ c.in_err-end.ensures in
+    subst (ExaminedOf c.args.t.now) (sym (handed _ _ c.from_residual.ensures)) (e, facts-refused _ _ e)
 
-pub returns-then-at-len : goal.returns-then-at-len
-returns-then-at-len c =
-    faulty-is _ 4 _ _ c.fault-then-at-len.ensures (left_over _ c.if-len-gt65536.false _ c.sections-r.ensures c.if-r-ne0.false c.if-at-len.true) _ c.faulty-then-at-len.ensures
+pub returns-then-end-len : goal.returns-then-end-len
+returns-then-end-len c =
+    let e = left_over _ c.if-len-gt65536.false _ c.in_ok-end.ensures c.if-end-len.true in
+    (e, facts-refused _ _ e)
 
 pub tally-n-requires : goal.tally-n-requires
-tally-n-requires c = (
-  readable _ c.if-len-gt65536.false _ c.sections-r.ensures c.if-r-ne0.false c.if-at-len.false,
-  c.if-len-gt65536.false,
-)
+tally-n-requires c = (readable _ c.if-len-gt65536.false _ c.in_ok-end.ensures c.if-end-len.false, c.if-len-gt65536.false)
 
-pub returns-then-n : goal.returns-then-n
-returns-then-n c =
-    examined-whole _ c.if-len-gt65536.false _ c.sections-r.ensures c.if-r-ne0.false c.if-at-len.false _ c.tally-n.ensures _ c.if-n.true c.sound-v.ensures
+pub returns-in_default : goal.returns-in_default
+returns-in_default c =
+    let none : None ≡ c.tally-n.result.counters = search rules in
+    let e = over-limits _ c.if-len-gt65536.false _ c.in_ok-end.ensures c.if-end-len.false (limits-broken _ (none ∙ c.tally-n.ensures.counters)) in
+    (e, facts-refused _ _ e)
 
 pub returns : goal.returns
 returns c =
-    examined-over _ c.if-len-gt65536.false _ c.sections-r.ensures c.if-r-ne0.false c.if-at-len.false _ c.tally-n.ensures _ c.if-n.false c.fault-2.ensures _ c.faulty-2.ensures
+    let n = c.tally-n.ensures in
+    let w = within-known _ _ (sym c.in-Some.is ∙ n.counters) in
+    let e = all-passed _ c.if-len-gt65536.false _ c.in_ok-end.ensures c.if-end-len.false w.0 in
+    (e, facts-whole _ _ e _ _ _ _ c.read2-points.ensures w.1 n.runs n.illegals)

@@ -14,7 +14,7 @@ pub loop-j-init : goal.loop-j-init
 loop-j-init c =
     let a = c.args in
     let b = c.bins in
-    (omega arith, enter a.t.now a.a a.p a.v a.n b.bin b.at c.byte-q.result c.read2-k.result c.own_ranges-m.result (omega arith) c.byte-q.ensures c.read2-k.ensures c.own_ranges-m.ensures.0 ∙ b.invariant.2)
+    (omega arith, enter a.t.now a.a a.p a.v a.n b.bin b.at c.byte-q.result c.read2-k.result c.pick-m.result (omega arith) c.byte-q.ensures c.read2-k.ensures c.pick-m.ensures ∙ b.invariant.2)
 
 pub loop-j-preserved : goal.loop-j-preserved
 loop-j-preserved c =

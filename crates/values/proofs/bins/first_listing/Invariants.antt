@@ -8,9 +8,6 @@ use Rattle.values.proofs.bins.first_listing.Given as goal
 abbrev pub invariant-loop-j : goal.invariant-loop-j
 invariant-loop-j l = (l.j ≤ l.m) × (left_of l.t l.a l.p l.v l.n l.bin l.at l.k l.m l.j ≡ first_listing l.p l.v 0 (bins_at l.t l.a l.r l.n))
 
-abbrev pub decreases-loop-j : goal.decreases-loop-j
-decreases-loop-j l = l.m - l.j
-
 abbrev pub invariant-bins : goal.invariant-bins
 invariant-bins l = (l.bin ≤ l.n) × (l.at ≤ l.r + 1114095 * l.bin) × (first_listing l.p l.v l.bin (bins_at l.t (l.a + 8 * l.bin) l.at (l.n - l.bin)) ≡ first_listing l.p l.v 0 (bins_at l.t l.a l.r l.n))
 

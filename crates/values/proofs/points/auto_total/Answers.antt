@@ -12,8 +12,8 @@ pub returns : goal.returns
 returns c =
     let a = c.args in
     let s = a.t.now in
-    let w = c.byte-width in
-    let x = c.power-all in
+    let w = c.byte in
+    let x = c.power in
     let m = c.read2 in
     let n = c.auto_count in
     (some_autos a.has (point_record s a.point) n.result (c.if-not-has.false) (auto-number s a.point w.result x.result m.result n.result w.ensures x.ensures.0 m.ensures n.ensures), omega arith)

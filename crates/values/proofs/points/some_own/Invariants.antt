@@ -5,6 +5,3 @@ use Rattle.values.proofs.points.some_own.Given as goal
 
 abbrev pub invariant-loop-i : goal.invariant-loop-i
 invariant-loop-i l = (l.i ≤ l.n) × (l.at ≤ l.start + 8 * l.i) × (some_own l.t l.p l.defaults l.size l.start l.n ≡ some_own l.t l.p l.defaults l.size l.at (l.n - l.i))
-
-abbrev pub decreases-loop-i : goal.decreases-loop-i
-decreases-loop-i l = l.n - l.i

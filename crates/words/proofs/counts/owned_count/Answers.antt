@@ -1,11 +1,15 @@
-use Rattle.words.specs.Verdicts.{verdict_in}
-use Rattle.words.proofs.Laws.{record_cut, record_whole}
-use borrow.Author.Rules.{rules}
+use mathlib.Core.Path.{◌∙◌}
+use Rattle.words.proofs.Laws.{records, handed}
 use Rattle.words.proofs.counts.owned_count.Goals as goal
 
-pub returns-then-t-end : goal.returns-then-t-end
-returns-then-t-end c = record_cut _ _ _ _ _ _ c.if-t-end.true c.fault.ensures
+pub returns-in_err-end : goal.returns-in_err-end
+returns-in_err-end c = handed _ _ c.from_residual.ensures ∙ search (records, c.in_err-end.ensures.value)
+
+pub returns-in_err-test : goal.returns-in_err-test
+returns-in_err-test c = handed _ _ c.from_residual-in_err-test.ensures ∙ search records
+
+pub returns-in_err-test-2 : goal.returns-in_err-test-2
+returns-in_err-test-2 c = handed _ _ c.from_residual-in_err-test-2.ensures ∙ search records
 
 pub returns : goal.returns
-unfolding verdict_in
-returns c = record_whole _ _ _ _ _ _ (search rules) (rw (c.test.ensures, c.test-b.ensures, c.sound.ensures, c.whole2-n.ensures))
+returns c = search records

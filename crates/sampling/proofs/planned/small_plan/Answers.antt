@@ -1,7 +1,0 @@
-use native.Mathlib.Omega.{arith}
-use Rattle.sampling.proofs.planned.small_plan.Goals as goal
-
-pub plan_in-requires : goal.plan_in-requires
-plan_in-requires c =
-    let p = c.requires in
-    record { t_value = (p.t_value.0, p.t_value.1, omega (arith, p.t_value.2), omega (arith, p.t_value.3)); t_in_bounds = p.t_in_bounds }
