@@ -122,18 +122,6 @@ crosses-ok s points at end e i l =
 
 -- ---- cross bins
 
--- a sum over records is one over their bytes, where each gives one of its bytes
-pub bytes_summed : {A : Type 0} (s : List ℕ) (f : A → ℕ) (says : ℕ → A) (size offset : ℕ) → ((at : ℕ) → f (says at) ≡ byte s (at + offset))
-    → (n at : ℕ) → sum_from 0 (λ (b : ℕ). b) (byte s) size (at + offset) n ≡ sum_from 0 f says size at n
-unfolding sum_from sum_of rows
-bytes_summed s f says size offset h zero at = refl
-bytes_summed s f says size offset h (suc n) at =
-    let rest = sum_of (λ (b : ℕ). b) (rows (byte s) size (at + offset + size) n) in
-    let e : rest ≡ sum_of (λ (b : ℕ). b) (rows (byte s) size (at + size + offset) n) = ap (λ (k : ℕ). sum_of (λ (b : ℕ). b) (rows (byte s) size k n)) (let y : at + offset + size ≡ at + size + offset = omega arith in y) in
-    let tail : 0 + sum_of (λ (b : ℕ). b) (rows (byte s) size (at + size + offset) n) ≡ 0 + sum_of f (rows says size (at + size) n) = bytes_summed s f says size offset h n (at + size) in
-    let first : f (says at) ≡ byte s (at + offset) = h at in
-    omega arith
-
 pub verdict-bin : (s : List ℕ) (points : List ℕ) (at : ℕ) → verdict_of (read_cross_bin s points at) ≡ verdict_of (read_cross_bin s [] at)
 unfolding read_cross_bin
 verdict-bin s points at = verdict_record s 3 (cross_bin_tests s) (cross_bin_head s points) at ∙ sym (verdict_record s 3 (cross_bin_tests s) (cross_bin_head s []) at)

@@ -8,9 +8,10 @@ ghost use Rattle.words.specs.Verdicts.{verdict_of};
 ghost use Rattle.words.specs.Sums.{sum_from};
 
 use layout::Section;
-use words::bytes::{byte, inside};
+use words::bytes::inside;
 use words::counts::owned_count;
 use words::guards::bin_guard_ok;
+use words::sums::sum_bytes;
 use words::verdicts::{FaultClass, Verdict, test, whole};
 
 // The tests on a cross bin's record are those of any cross's.
@@ -39,20 +40,6 @@ fn cross_bins(t: &[u8], n: usize, start: usize) -> Verdict
         at = cross_bin(t, at)?;
     }
     Ok(at)
-}
-
-// The sum of a byte of n records of size bytes, the first such byte at start.
-fn sum_bytes(t: &[u8], size: usize, start: usize, n: usize) -> usize
-    requires { (size ≤ 13) × (start ≤ 65548) × (n ≤ 2000000) }
-    ensures { (result ≡ sum_from 0 (λ b. b) (byte t.now) size start n) × (result ≤ 255 * n) }
-{
-    let mut sum = 0;
-    let mut at = start;
-    for i in 0..n {
-        sum += byte(t, at) as usize;
-        at += size;
-    }
-    sum
 }
 
 // The cross bins that these crosses own.

@@ -1,5 +1,5 @@
 // Section 3: the ranges of the value bins.
-ghost use Rattle.std.specs.Prelude.{◌≡◌, ◌+◌, ◌*◌, ◌<◌, ◌≤◌, length};
+ghost use Rattle.std.specs.Prelude.{◌≡◌, ◌+◌, ◌*◌, ◌≤◌, length};
 ghost use Rattle.model.specs.Format.{each, bin_head, ranges_owned, read_bin_ranges, read_range_section};
 ghost use Rattle.model.specs.Raw.{rows, points_at};
 ghost use Rattle.words.specs.Sums.{sum_from};

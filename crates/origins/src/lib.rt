@@ -1,7 +1,7 @@
 // The value bin that each cover bin of a table comes of.
 #![tactic(auto)]
 
-ghost use Rattle.std.specs.Prelude.{◌≡◌, true, map, ◌+◌, ◌*◌, ◌≤◌, ◌<◌, length};
+ghost use Rattle.std.specs.Prelude.{◌≡◌, true, map, ◌*◌, ◌≤◌, ◌<◌, length};
 ghost use Rattle.model.specs.Format.{accepted, table_of};
 ghost use Rattle.model.specs.Register.{point_total};
 ghost use Rattle.layout.specs.Places.{layout_of, Small};

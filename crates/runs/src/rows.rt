@@ -1,5 +1,5 @@
 // The sequences of a table as rows of words, decoded once from its bytes.
-ghost use Rattle.std.specs.Prelude.{◌≡◌, true, [], ◌∷◌, ◌+◌, ◌*◌, ◌<◌, ◌≤◌, length};
+ghost use Rattle.std.specs.Prelude.{◌≡◌, true, ◌∷◌, ◌+◌, ◌*◌, ◌<◌, ◌≤◌, length};
 ghost use Rattle.model.specs.Lists.{all, concat_of};
 ghost use Rattle.model.specs.Format.{accepted, table_of, range_record};
 ghost use Rattle.model.specs.Raw.{ranges_at, range_total, steps_at, sequences_at, transitions_at};

@@ -1,5 +1,5 @@
 // Unknown counts that are raised.
-ghost use Rattle.std.specs.Prelude.{◌≡◌, true, ◌<◌, ◌≤◌, ◌+◌, length, take, drop};
+ghost use Rattle.std.specs.Prelude.{◌≡◌, true, ◌≤◌, ◌+◌, length, take, drop};
 ghost use Rattle.arrays.specs.Put.{put};
 ghost use Rattle.samples.specs.Adds.{add_hits, is_unknown_code, all_room};
 

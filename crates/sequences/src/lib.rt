@@ -1,7 +1,7 @@
 // What a sample does to the run words of one sequence.
 #![tactic(auto)]
 
-ghost use Rattle.std.specs.Prelude.{◌≡◌, cond, List, ◌++◌, ◌+◌, ◌-◌, ◌≤◌, length, take, drop, replicate};
+ghost use Rattle.std.specs.Prelude.{◌≡◌, List, ◌++◌, ◌+◌, ◌-◌, ◌≤◌, length, take, drop, replicate};
 ghost use Rattle.model.specs.Table.{Step};
 ghost use Rattle.model.specs.Sampling.{Reading, run_length, next_steps, matched_lengths};
 ghost use Rattle.sequences.specs.Shapes.{shape_of, admitted_bits, words_of, Fits};

@@ -1,7 +1,7 @@
 // Totals and covered counters of items, by one pass over the counters.
 #![tactic(auto)]
 
-ghost use Rattle.std.specs.Prelude.{◌≡◌, ◌<◌, ◌≤◌, length, get_or};
+ghost use Rattle.std.specs.Prelude.{◌≡◌, ◌<◌, ◌≤◌, length};
 ghost use Rattle.tallies.specs.Tallies.{Tallied, ItemNumbers, with_counter};
 
 // How many counters count in an item's total, and how many of these are covered.

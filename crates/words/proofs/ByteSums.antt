@@ -10,7 +10,7 @@ use Rattle.model.specs.Lists.{sum_of}
 use Rattle.model.specs.Format.{byte}
 use Rattle.model.specs.Raw.{rows}
 use Rattle.model.proofs.Lists.{none_left, one_left}
-use Rattle.words.specs.Sums.{byte_sum}
+use Rattle.words.specs.Sums.{byte_sum, sum_from}
 
 -- a loop's sum so far, with what is left
 unfoldable pub bytes_from : List ℕ → ℕ → ℕ → ℕ → ℕ → ℕ
@@ -45,6 +45,12 @@ pub byte_field₀ : {A : Type 0} (s : List ℕ) (f : A → ℕ) (says : ℕ → 
 byte_field₀ s f says size h at n =
     ap (λ (p : ℕ). byte_sum s size p n) (let y : at ≡ at + 0 = omega arith in y)
     ∙ byte-field s f says size 0 (λ p. h p ∙ ap (byte s) (let y : p ≡ p + 0 = omega arith in y)) at n
+
+-- as a loop keeps such a sum
+pub byte-sum_from : {A : Type 0} (s : List ℕ) (f : A → ℕ) (says : ℕ → A) (size off : ℕ) → ((at : ℕ) → f (says at) ≡ byte s (at + off))
+    → (at n : ℕ) → byte_sum s size (at + off) n ≡ sum_from 0 f says size at n
+unfolding sum_from
+byte-sum_from s f says size off h at n = let fields = byte-field s f says size off h at n in omega arith
 
 -- cut anywhere
 pub bytes-add : (s : List ℕ) (size at a b : ℕ) → byte_sum s size at (a + b) ≡ byte_sum s size at a + byte_sum s size (at + size * a) b

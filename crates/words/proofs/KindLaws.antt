@@ -42,16 +42,6 @@ module _ (kind : Kind) (b : ℕ) (m : meant kind ≡ kind_from b) where
       go (suc (suc zero)) h = absurd (false-true h)
       go (suc (suc (suc b))) h = absurd (false-true h)
 
-  pub ignore-byte : kind ≡ Ignore → b ≡ 1
-  unfolding same
-  ignore-byte e = go b (ap (λ (k : Kind). same k Ignore) (sym told ∙ e))
-    where
-      go : (b : ℕ) → same (coded (kind_from b)) Ignore ≡ true → b ≡ 1
-      go zero h = absurd (false-true h)
-      go (suc zero) h = refl
-      go (suc (suc zero)) h = absurd (false-true h)
-      go (suc (suc (suc b))) h = absurd (false-true h)
-
   pub illegal-byte : kind ≡ Illegal → b ≡ 2
   unfolding same
   illegal-byte e = go b (ap (λ (k : Kind). same k Illegal) (sym told ∙ e))
@@ -64,9 +54,6 @@ module _ (kind : Kind) (b : ℕ) (m : meant kind ≡ kind_from b) where
 
   pub no_cover-byte : (kind ≡ Cover → ⊥) → b ≡ 0 → ⊥
   no_cover-byte n z = n (told ∙ ap (λ (x : ℕ). coded (kind_from x)) z)
-
-  pub no_ignore-byte : (kind ≡ Ignore → ⊥) → b ≡ 1 → ⊥
-  no_ignore-byte n z = n (told ∙ ap (λ (x : ℕ). coded (kind_from x)) z)
 
   pub no_illegal-byte : (kind ≡ Illegal → ⊥) → b ≡ 2 → ⊥
   no_illegal-byte n z = n (told ∙ ap (λ (x : ℕ). coded (kind_from x)) z)

@@ -5,7 +5,7 @@ use Rattle.std.proofs.Common.{Result, Ok, Err}
 use Rattle.std.specs.Result.{IsErr, IsErrAnd}
 use Prim.Native.Nat.{ℕ, zero, suc, ◌+◌, ◌*◌, ◌-◌, ◌<◌, ◌≤◌}
 use mathlib.Core.Path.{◌≡◌, refl, ap, sym, ◌∙◌}
-use mathlib.Core.Bool.{Bool, true, false, cond}
+use mathlib.Core.Bool.{Bool, true, false, ◌&&◌}
 use mathlib.Core.List.{List, [], ◌∷◌, ◌++◌}
 use native.Mathlib.Nat.{sub-zero}
 use native.Mathlib.Omega.{arith}
@@ -17,6 +17,7 @@ use Rattle.model.specs.Format.{cut, Read, refused, got, Reader, Test, tested, an
 use Rattle.model.specs.Format as model
 use Rattle.model.specs.Lists.{sum_of}
 use Rattle.model.specs.Raw.{rows}
+use Rattle.model.proofs.Booleans.{false-true}
 use Rattle.model.proofs.Lists.{none_left, one_left}
 use Rattle.words.specs.Sums.{sum_from}
 use Rattle.words.specs.Verdicts.{Verdict, class_of, fault_at, verdict_of, verdict_in, unless_fault, pass}
@@ -37,12 +38,6 @@ unfolding verdict_in
 verdict_in-append [] ys f = refl
 verdict_in-append ((true, class, at) ∷ xs) ys f = verdict_in-append xs ys f
 verdict_in-append ((false, class, at) ∷ xs) ys f = refl
-
--- one of two tests
-pub verdict_in_choice : {A : Type 0} (b : Bool) (x y : Test) (tests : List Test) (f : Result A Fault)
-    → verdict_in (cond b x y ∷ tests) f ≡ cond b (verdict_in (x ∷ tests) f) (verdict_in (y ∷ tests) f)
-verdict_in_choice true x y tests f = refl
-verdict_in_choice false x y tests f = refl
 
 -- what a `?` hands on
 pub handed : {A : Type 0} (r : Result A Fault) (f : Fault) → IsErr r × IsErrAnd r (λ y. y ≡ f) → r ≡ Err f
@@ -106,6 +101,26 @@ module _ {A : Type 0} (s : List ℕ) (size : ℕ) (says-tests : ℕ → List Tes
   record_whole h e = e ∙ sym (rw (le-leb (at + size) (length s) h) at (verdict_record s size says-tests says at))
 
 pub ruleset records = (tests, record_cut, record_whole)
+
+-- whether ok holds and all tests pass
+unfoldable pub passing : Bool → List Test → Bool
+passing ok [] = ok
+passing ok ((passes, class, at) ∷ tests) = passing (ok && passes) tests
+
+not-passing : (tests : List Test) → passing false tests ≡ true → ⊥
+unfolding passing
+not-passing [] e = false-true e
+not-passing ((passes, class, at) ∷ tests) e = not-passing tests e
+
+verdict-passing : {A : Type 0} (tests : List Test) (rest : Result A Fault) → passing true tests ≡ true → verdict_in tests rest ≡ rest
+unfolding passing verdict_in
+verdict-passing [] rest e = refl
+verdict-passing ((true, class, at) ∷ tests) rest e = verdict-passing tests rest e
+verdict-passing ((false, class, at) ∷ tests) rest e = absurd (not-passing tests e)
+
+-- where all tests pass, the verdict is what comes after them
+pub passed : {A : Type 0} (tests : List Test) (rest r : Result A Fault) (ok : Bool) → r ≡ rest → ok ≡ true → ok ≡ passing true tests → r ≡ verdict_in tests rest
+passed tests rest r ok e t h = e ∙ sym (verdict-passing tests rest (sym h ∙ t))
 
 -- ---- a reader that got something
 
