@@ -24,9 +24,15 @@ fn cross_bin(t: &[u8], at: usize) -> Verdict
     let kind = inside(t, at);
     let guard = inside(t, at + 1);
     let tokens = inside(t, at + 2);
-    test(kind <= 2, FaultClass::Field, at)?;
-    test(bin_guard_ok(kind, guard), FaultClass::Field, at + 1)?;
-    test((1..=32).contains(&tokens), FaultClass::Count, at + 2)?;
+    let kinds = kind <= 2;
+    let guarded = bin_guard_ok(kind, guard);
+    let some = (1..=32).contains(&tokens);
+    if kinds & guarded & some {
+        return Ok(end);
+    }
+    test(kinds, FaultClass::Field, at)?;
+    test(guarded, FaultClass::Field, at + 1)?;
+    test(some, FaultClass::Count, at + 2)?;
     Ok(end)
 }
 

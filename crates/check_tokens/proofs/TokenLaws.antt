@@ -4,7 +4,7 @@ use Prim.Native.Nat.{ℕ, zero, suc, ◌+◌, ◌-◌, ◌*◌, ◌<◌, ◌≤�
 use Rattle.std.proofs.Common.{Result, Ok, Err}
 use Rattle.std.proofs.lemmas.List.{get_or_past}
 use mathlib.Core.Path.{◌≡◌, refl, ap, ap₂, sym, ◌∙◌, subst}
-use mathlib.Core.Bool.{Bool, true, false, ◌&&◌, ◌||◌, cond}
+use mathlib.Core.Bool.{Bool, true, false, not, ◌&&◌, ◌||◌, cond}
 use mathlib.Core.List.{List, [], ◌∷◌, ◌++◌}
 use mathlib.Core.Option.{Option, none, some}
 use native.Mathlib.Omega.{arith}
@@ -13,7 +13,7 @@ use lib.ListN.{length, get_or}
 use borrow.Author.Rules.{rules}
 use borrow.Author.Tests.{ltb-true, ltb-false, eqb-true, lt-leb, le-leb, eq-eqb}
 use Rattle.model.specs.Table.{Point, Select, negated, no_point, is_cover}
-use Rattle.model.specs.Format.{Test, byte, u16, u64, point_record, BinHead, bin_head, no_bin_head, value_tests, cross_points, cover_bin_of, token_rules, token_tests, token_record, token_from, Token, leaf, not_token, and_token, or_token, is_leaf, with_token, expressions}
+use Rattle.model.specs.Format.{Test, disagreement, byte, u16, u64, point_record, BinHead, bin_head, no_bin_head, value_tests, cross_points, cover_bin_of, token_rules, token_tests, token_record, token_from, Token, leaf, not_token, and_token, or_token, is_leaf, with_token, expressions}
 use Rattle.model.specs.Raw.{rows, points_at}
 use Rattle.model.specs.Values.{field_value}
 use Rattle.model.proofs.Booleans.{false-true, or-false-right}
@@ -23,7 +23,7 @@ use Rattle.words.specs.declared.verdicts.Fault.{Fault}
 use Rattle.model.proofs.Fields.{cover-kind}
 use Rattle.model.proofs.Lists.{none_left, one_left, length-row, get_d-row}
 use Rattle.ranges.specs.Types.{typed}
-use Rattle.check_tokens.specs.Tokens.{CrossOk, found, wanted_after, lacks}
+use Rattle.check_tokens.specs.Tokens.{CrossOk, name_fields, value_fields, found, wanted_after, lacks}
 use Rattle.words.proofs.Laws.{tests, tests_stop, tests_on, verdict_in-append}
 
 -- ---- the point at a position
@@ -98,6 +98,13 @@ module _ {A : Type 0} (rest : Result A Fault) (others : List Test) where
   some_on xs r h e = tests_on xs (verdict_in others rest) r h e ∙ sym (verdict_in-append xs others rest)
 
 pub ruleset token-tests = (tests, one_stop, one_on, some_stop, some_on)
+
+-- the tests on op, position and bin passed: what is left are those after them
+pub fields_on : {A : Type 0} (parts : ℕ) (p : Point) (op position b lo hi : ℕ) (names : Bool) (at : ℕ) (rest r : Result A Fault)
+    → pass ≡ verdict_in (name_fields parts op position b at) pass → r ≡ verdict_in (value_fields p op lo hi at ++ (not (eqb op 1) || names, disagreement, at) ∷ []) rest
+    → r ≡ verdict_in (token_rules parts p op position b lo hi names at) rest
+unfolding token_rules name_fields value_fields
+fields_on parts p op position b lo hi names at rest r h e = some_on rest (value_fields p op lo hi at ++ (not (eqb op 1) || names, disagreement, at) ∷ []) (name_fields parts op position b at) r h e
 
 -- a point's type is its width and its sign
 pub values-typed : (p : Point) (a b at : ℕ) → value_tests p a b at ≡ value_tests (typed p.width p.signed) a b at

@@ -3,7 +3,7 @@
 use Rattle.std.specs.Prelude.{ℕ, ◌+◌, ◌-◌, ◌<◌, ◌≤◌, Bool, false, ◌&&◌, ◌||◌, cond, List, [], ◌∷◌, leb, ltb, eqb, length}
 use Rattle.std.proofs.Math.Option.{Option, none, some}
 use Rattle.model.specs.Table.{Point, Select}
-use Rattle.model.specs.Format.{Test, unused, byte, u16, u64, value_tests}
+use Rattle.model.specs.Format.{Test, field, unused, byte, u16, u64, value_tests}
 use Rattle.check_tokens.specs.declared.tokens.Token.{Token}
 
 -- the cross at `at` has two to four points, each below `points`
@@ -17,6 +17,14 @@ pub record CrossOk (s : List ℕ) (points at : ℕ) : Type 0 where
 -- the fields of the token at `at`
 abbrev pub token_at : List ℕ → ℕ → Token
 token_at s at = record { op = byte s at; position = byte s (at + 1); bin = u16 s (at + 2); lo = u64 s (at + 4); hi = u64 s (at + 12) }
+
+-- the tests on op, position and bin, of a cross with `parts` points
+unfoldable pub name_fields : ℕ → ℕ → ℕ → ℕ → ℕ → List Test
+name_fields parts op position b at =
+    (leb op 5, field, at)
+    ∷ cond (leb op 2) (ltb position parts, field, at + 1) (eqb position 0, unused, at + 1)
+    ∷ (eqb op 1 || eqb b 0, unused, at + 2)
+    ∷ []
 
 -- the tests on lo and hi
 unfoldable pub value_fields : Point → ℕ → ℕ → ℕ → ℕ → List Test

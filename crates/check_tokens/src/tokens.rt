@@ -1,16 +1,17 @@
 // Section 10: the records of select tokens.
-#![tactic(auto, unfolding(words::specs::Verdicts::verdict_of, words::specs::Verdicts::verdict_in, model::specs::Format::read_record, model::specs::Format::tested, model::specs::Format::token_rules, model::specs::Format::read_token, crate::specs::Tokens::value_fields))]
+#![tactic(auto, unfolding(words::specs::Verdicts::verdict_of, words::specs::Verdicts::verdict_in, model::specs::Format::read_record, model::specs::Format::tested, model::specs::Format::token_rules, model::specs::Format::read_token, crate::specs::Tokens::name_fields, crate::specs::Tokens::value_fields))]
 
 ghost use Rattle.std.specs.Prelude.{◌≡◌, [], ◌∷◌, Ok, cond, ◌+◌, ◌*◌, ◌≤◌, leb, ltb, eqb, length, get_or};
 ghost use Rattle.model.specs.Format.{point_record, bin_head, cross_points, cover_bin_of, field, unused, token_rules, read_token, times};
 ghost use Rattle.model.specs.Raw.{rows, points_at};
 ghost use Rattle.words.specs.Verdicts.{verdict_of, verdict_in};
 ghost use Rattle.ranges.specs.Types.{Wide, AllWide};
-ghost use Rattle.check_tokens.specs.Tokens.{CrossOk, token_at, value_fields};
+ghost use Rattle.check_tokens.specs.Tokens.{CrossOk, token_at, name_fields, value_fields};
 
 use layout::Section;
 use ranges::{type_at, value_tests};
 use words::bytes::{byte, inside, whole2, whole8};
+use words::choices::pick;
 use words::kinds::Kind;
 use words::verdicts::{Fault, FaultClass, Verdict, test, whole};
 
@@ -70,6 +71,22 @@ fn position_field(parts: u8, token: Token, at: usize) -> Result<(), Fault>
     test(token.position == 0, FaultClass::Unused, at + 1)
 }
 
+// op, position and bin. Sound ones pass at once.
+fn name_fields(parts: u8, token: Token, at: usize) -> Result<(), Fault>
+    requires { at ≤ 65536 }
+    ensures { result ≡ verdict_in (name_fields parts token.op token.position token.bin at) (Ok tt) }
+{
+    let known = token.op <= 5;
+    let placed = pick(token.op <= 2, token.position < parts, token.position == 0);
+    let plain = (token.op == 1) | (token.bin == 0);
+    if known & placed & plain {
+        return Ok(());
+    }
+    test(known, FaultClass::Field, at)?;
+    position_field(parts, token, at)?;
+    test(plain, FaultClass::Unused, at + 2)
+}
+
 // lo and hi: values of the point whose record is at point where op is 2, else unused.
 fn value_fields(t: &[u8], point: usize, token: Token, at: usize) -> Result<(), Fault>
     requires { (point ≤ 65536) × (at ≤ 65536) × Wide t.now point }
@@ -78,8 +95,13 @@ fn value_fields(t: &[u8], point: usize, token: Token, at: usize) -> Result<(), F
     if token.op == 2 {
         return value_tests(type_at(t, point), token.lo, token.hi, at + 4);
     }
-    test(token.lo == 0, FaultClass::Unused, at + 4)?;
-    test(token.hi == 0, FaultClass::Unused, at + 12)
+    let no_lo = token.lo == 0;
+    let no_hi = token.hi == 0;
+    if no_lo & no_hi {
+        return Ok(());
+    }
+    test(no_lo, FaultClass::Unused, at + 4)?;
+    test(no_hi, FaultClass::Unused, at + 12)
 }
 
 // The tests on a token at at, of a cross with so many points. p is the point at its position, whose record is at point.
@@ -95,10 +117,7 @@ fn token_rules(
     requires { (bins.at ≤ 65536) × (point ≤ 65536) × (at ≤ 65536) × Wide t.now point }
     ensures { result ≡ verdict_in (token_rules parts (point_record t.now point) token.op token.position token.bin token.lo token.hi (cover_bin_of (rows (bin_head t.now) 8 bins.at bins.count) p token.bin) at) (Ok tt) }
 {
-    let plain = (token.op == 1) | (token.bin == 0);
-    test(token.op <= 5, FaultClass::Field, at)?;
-    position_field(parts, token, at)?;
-    test(plain, FaultClass::Unused, at + 2)?;
+    name_fields(parts, token, at)?;
     value_fields(t, point, token, at)?;
     let named = (token.op != 1) || cover_bin(t, bins, p, token.bin as usize);
     test(named, FaultClass::Disagreement, at)

@@ -1,21 +1,23 @@
 -- Value bins: the readers with what they read forgotten, and the search for a default, in the form in which `search` applies the laws.
 -- Assumes nothing.
-use Prim.Native.Nat.{ℕ, suc, ◌+◌, ◌*◌, ◌-◌, ◌<◌, ◌≤◌}
+use Prim.Native.Nat.{ℕ, zero, suc, ◌+◌, ◌*◌, ◌-◌, ◌<◌, ◌≤◌}
 use mathlib.Core.Path.{◌≡◌, refl, ap, ap₂, sym, ◌∙◌}
-use mathlib.Core.Bool.{Bool, true, false, ◌&&◌, ◌||◌, cond}
+use mathlib.Core.Bool.{Bool, true, false, not, ◌&&◌, ◌||◌, cond, and-true}
 use mathlib.Core.List.{List, [], ◌∷◌}
 use native.Mathlib.Omega.{arith}
 use native.Mathlib.Numerals.{add-one}
 use lib.Dec.{eqb}
 use lib.ListN.{length}
 use borrow.Author.Rules.{rules}
+use borrow.Author.Tests.{lt-leb, ne_eqb}
 use Rattle.model.specs.Lists.{any}
 use Rattle.model.specs.Table.{is_default}
-use Rattle.model.specs.Format.{Read, got, and_then, byte, BinHead, bin_head, bin_tests, defaults_with, read_bin_heads}
+use Rattle.model.specs.Format.{Read, got, and_then, byte, BinHead, bin_head, bin_tests, defaults_with, first_default, read_bin_heads}
 use Rattle.std.proofs.Common.{Ok, Err}
 use Rattle.words.specs.Verdicts.{Verdict, verdict_of}
 use Rattle.words.specs.declared.verdicts.Fault.{Fault}
 use Rattle.words.proofs.Laws.{verdict_stop, verdict-done, record-got, sound_record}
+use Rattle.model.proofs.Booleans.{false-true}
 use Rattle.model.proofs.Fields.{default-kind}
 use Rattle.model.proofs.Lists.{none_left, one_left}
 use Rattle.check_values.specs.Places.{defaults_up_to, read_bin, is_default_of}
@@ -88,3 +90,26 @@ module _ (s : List ℕ) (base p k : ℕ) (x : Bool) (inv : x ≡ any (eqb p) (de
   defs_on r h e z = simp (sym e ∙ z) at (defs_step h)
 
 pub ruleset defss = (rules, defs_none, defs_found, defs_on)
+
+-- ---- a bin's tests
+
+-- the two tests on its number, as one
+pub number_tests : (b dealt some none : Bool) → (b && cond dealt some none) ≡ ((b && (not dealt || some)) && (dealt || none))
+number_tests true true some none = sym (and-true some)
+number_tests true false some none = refl
+number_tests false dealt some none = refl
+
+plain-kind : (kind : ℕ) → (eqb kind 0 || eqb kind 2) ≡ true → kind < 3
+plain-kind zero e = omega arith
+plain-kind (suc zero) e = omega arith
+plain-kind (suc (suc zero)) e = omega arith
+plain-kind (suc (suc (suc kind))) e =
+    let k = suc (suc (suc kind)) in
+    let a : eqb k 0 ≡ false = ne_eqb k 0 (λ q. omega (arith, q)) in
+    let b : eqb k 2 ≡ false = ne_eqb k 2 (λ q. omega (arith, q)) in
+    absurd (false-true (sym (ap₂ ◌||◌ a b) ∙ e))
+
+-- a cover or an illegal bin is no default
+pub first_plain : (s : List ℕ) (base i : ℕ) → (eqb (byte s (base + 8 * i + 1)) 0 || eqb (byte s (base + 8 * i + 1)) 2) ≡ true
+    → first_default (bin_head s (base + 8 * i)) (defaults_up_to s base i) ≡ true
+first_plain s base i h = rw (default-kind (byte s (base + 8 * i + 1)), lt-leb 3 (byte s (base + 8 * i + 1)) (plain-kind (byte s (base + 8 * i + 1)) h))

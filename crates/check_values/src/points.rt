@@ -15,12 +15,22 @@ fn point_tests(t: &[u8], at: usize) -> Result<(), Fault>
     ensures { result ≡ verdict_in (point_tests t.now at) (Ok tt) }
 {
     let width = inside(t, at);
-    test((1 <= width) & (width <= 32), FaultClass::Field, at)?;
-    test(inside(t, at + 1) <= 1, FaultClass::Field, at + 1)?;
-    test(guard_ok(inside(t, at + 2)), FaultClass::Field, at + 2)?;
-    test(1 <= read4(t, at + 5), FaultClass::Field, at + 5)?;
+    let sign = inside(t, at + 1);
+    let least = read4(t, at + 5);
     let most = whole2(t, at + 9);
-    test((1 <= most) & (most <= 256), FaultClass::Field, at + 9)
+    let wide = (1 <= width) & (width <= 32);
+    let signed = sign <= 1;
+    let guarded = guard_ok(inside(t, at + 2));
+    let reached = 1 <= least;
+    let automatic = (1 <= most) & (most <= 256);
+    if wide & signed & guarded & reached & automatic {
+        return Ok(());
+    }
+    test(wide, FaultClass::Field, at)?;
+    test(signed, FaultClass::Field, at + 1)?;
+    test(guarded, FaultClass::Field, at + 2)?;
+    test(reached, FaultClass::Field, at + 5)?;
+    test(automatic, FaultClass::Field, at + 9)
 }
 
 // The section whose count stands at at.

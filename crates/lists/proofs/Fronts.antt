@@ -5,10 +5,10 @@ use mathlib.Core.List.{List, [], ◌∷◌, ◌++◌, append_assoc, append-nil}
 use Prim.Native.Nat.{ℕ, zero, suc, ◌+◌, ◌-◌, ◌≤◌, ◌<◌}
 use native.Mathlib.Omega.{arith}
 use lib.ListN.{length, get_or, take, drop, set, length-append, length-drop, drop_of_length-le}
-use lib.Seq.{take_all, take-nil, take-take, take_at, drop_at, drop-drop, length-take-le, get_or-take, set-append_left, take-set-lt, drop-set-lt}
+use lib.Seq.{drop-cons, take_all, take-nil, take-take, take_at, drop_at, drop-drop, length-take-le, get_or-take, set-append_left, take-set-lt, drop-set-lt}
 use borrow.Rule.Slice.PartMut.{put_mid}
 use Rattle.arrays.specs.Put.{put}
-use Rattle.arrays.proofs.PutLaws.{put-zero, put-cons}
+use Rattle.arrays.proofs.PutLaws.{put-nil, put-zero, put-cons}
 
 -- n elements from a on stand in the first a + n
 part-front : (a n : ℕ) (l : List ℕ) → take n (drop a l) ≡ drop a (take (a + n) l)
@@ -76,3 +76,20 @@ module _ (c : ℕ) (l : List ℕ) (fit : c ≤ length l) where
         ap (λ (y : List ℕ). take c l ++ (x ++ y)) (drop_of_length-le (drop c l) {i = length l - c} (omega (arith, length-drop c l)))
         ∙ ap (take c l ++◌) (append-nil x ∙ e ∙ ap (put 0 xs) lent_all ∙ put-zero xs (drop c l) ∙ ap (xs ++◌) (drop-drop (length xs) c l))
         ∙ sym (append_assoc (take c l) xs (drop (c + length xs) l))
+
+-- ---- the first n elements of another list, written one after another
+
+module _ (n i : ℕ) (from out whole : List ℕ) (inv : put i (drop i (take n from)) out ≡ whole) where
+  pub copy_turn : i < n → n ≤ length from → i < length out → put (i + 1) (drop (i + 1) (take n from)) (set out i (get_or from i 0)) ≡ whole
+  copy_turn h k room =
+      let long = length-take-le n from k in
+      let z : i + 1 ≡ suc i = omega arith in
+      put-cons i (get_or from i 0) (drop (i + 1) (take n from)) out room
+      ∙ ap₂ (λ (v m : ℕ). put i (v ∷ drop m (take n from)) out) (sym (get_or-take n from i 0 h)) z
+      ∙ ap (λ (x : List ℕ). put i x out) (sym (drop-cons (take n from) i 0 (omega (arith, long))))
+      ∙ inv
+
+  pub copy_end : n ≤ i → n ≤ length from → out ≡ whole
+  copy_end h k =
+      let long = length-take-le n from k in
+      sym (ap (λ (x : List ℕ). put i x out) (drop_of_length-le (take n from) {i = i} (omega (arith, long))) ∙ put-nil i out) ∙ inv

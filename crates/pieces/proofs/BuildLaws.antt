@@ -5,7 +5,7 @@ use mathlib.Core.Bool.{true}
 use mathlib.Core.List.{List, [], ◌∷◌, ◌++◌}
 use Prim.Native.Nat.{ℕ, suc, ◌+◌, ◌-◌, ◌*◌, ◌/◌, ◌^◌, ◌≤◌, ◌<◌}
 use native.Mathlib.Omega.{arith}
-use lib.ListN.{length, get_or, take, drop, length-take, length-drop}
+use lib.ListN.{length, get_or, set, take, drop, length-take, length-drop, drop_of_length-le}
 use lib.Seq.{get_or-drop, get_or-take, ext_get_or, take-take}
 use Rattle.model.specs.Lists.{all}
 use Rattle.model.specs.Table.{Range, span, pattern, Table}
@@ -17,7 +17,8 @@ use Rattle.model.proofs.Readers.{All, all_both}
 use Rattle.model.proofs.RawLaws.{length-rows}
 use Rattle.arrays.specs.Put.{put}
 use Rattle.arrays.specs.Flat.{covers}
-use Rattle.arrays.proofs.PutLaws.{put_in, put-before, length-put}
+use Rattle.model.proofs.Lists.{head_tail}
+use Rattle.arrays.proofs.PutLaws.{put-nil, put-cons, put_in, put-before, length-put}
 use Rattle.ranges.specs.Taken.{excluded_at}
 use Rattle.layout.specs.Places.{layout_of, bin_sections_of}
 use Rattle.layout.specs.declared.BinSections.{BinSections}
@@ -210,6 +211,18 @@ module _ (t : Table) (p m at n : ℕ) (l : List ℕ) (rows_of : RowsOf t p (plan
 
       pub ends-few : to ≤ at + point_need t p
       ends-few = omega (arith, end, pieces_number, number, listed-apart t p)
+
+-- ---- words copied
+
+pub copy_turn : (at i : ℕ) (words l whole : List ℕ) → i < length words → at + i < length l → put (at + i) (drop i words) l ≡ whole → put (at + (i + 1)) (drop (i + 1) words) (set l (at + i) (get_or words i 0)) ≡ whole
+copy_turn at i words l whole h k e =
+    ap (λ (a : ℕ). put a (drop (i + 1) words) (set l (at + i) (get_or words i 0))) (let z : at + (i + 1) ≡ at + i + 1 = omega arith in z)
+    ∙ put-cons (at + i) (get_or words i 0) (drop (i + 1) words) l k
+    ∙ ap (λ (xs : List ℕ). put (at + i) xs l) (sym (head_tail words i 0 h))
+    ∙ e
+
+pub copy_end : (at i : ℕ) (words l whole : List ℕ) → length words ≤ i → put (at + i) (drop i words) l ≡ whole → l ≡ whole
+copy_end at i words l whole h e = sym (ap (λ (xs : List ℕ). put (at + i) xs l) (drop_of_length-le words h) ∙ put-nil (at + i) l) ∙ e
 
 -- ---- by the layout
 

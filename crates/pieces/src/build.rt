@@ -33,9 +33,12 @@ fn put_words(out: &mut [u64], at: usize, words: &[u64]) -> usize
     requires { at + length words.now ≤ length out.old }
     ensures { (result ≡ at + length words.now) × (out.new ≡ put at words.now out.old) }
 {
-    let end = at + words.len();
-    out[at..end].copy_from_slice(words);
-    end
+    let n = words.len();
+    // No copy_from_slice, of which LLVM makes a call of memmove: the library asks for memcpy and memset only.
+    for i in 0..n {
+        out[at + i] = words[i];
+    }
+    at + n
 }
 
 // Where a point's spans and its pieces begin, and where its plan ends.

@@ -190,7 +190,10 @@ pub fn sound_spans(t: &[u8], point: usize, n: usize, start: usize) -> bool
     if t.len() < start + 17 * n {
         return false;
     }
-    let p = type_at(t, point);
+    let p = PointType {
+        width: inside(t, point),
+        signed: inside(t, point + 1) == 1,
+    };
     spans_in(t, limits_of(p), n, start)
 }
 

@@ -12,5 +12,6 @@ pub fn takes(t: &[u8], b: usize, p: u8) -> bool
 {
     let point = byte(t, b);
     let kind = Kind::from(byte(t, b + 1));
-    (point == p) & kind.excludes()
+    // Not Kind::excludes: the edit illegal_not_excluded slips in this list.
+    (point == p) & matches!(kind, Kind::Ignore | Kind::Illegal)
 }

@@ -53,9 +53,10 @@ impl<'a> Reader<'a> {
         requires { (self.at < 4294967296) × (size ≤ 20) }
         ensures { result ≡ next_count self.entry size }
     {
+        let p = part_at(self.table, self.at, size);
         Reader {
             table: self.table,
-            at: self.records(size).to,
+            at: p.to,
         }
     }
 }

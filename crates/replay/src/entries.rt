@@ -8,6 +8,7 @@ ghost use Rattle.sample_log.specs.Held.{Held, Onward};
 use places::put_illegals;
 use refusals::refusal::number;
 use report::illegals::{Illegals, Sample};
+use sample_log::at_end;
 use sample_log::samples::{block_of, put_samples};
 use sample_log::state::{Log, Stop};
 use std::fs::File;
@@ -70,8 +71,7 @@ impl<'o, 't, 'r> Replay<'o, 't, 'r> {
             block.count,
         );
         // Where a write fails, the log is still taken to its end.
-        let _ = self
-            .illegals
+        self.illegals
             .say_reports(self.out, &self.reports, t.taken, first);
         if let Err(refusal) = t.end {
             self.log.pass(0, t.taken);
@@ -98,7 +98,7 @@ impl<'o, 't, 'r> Replay<'o, 't, 'r> {
         ensures onward { OnOk result (Onward self.old.log self.new.log) }
     {
         if let Err(stop) = self.log.have_bytes(bytes, file, 4) {
-            return Err(self.log.at_end(stop));
+            return Err(at_end(stop, self.log.to - self.log.from));
         }
         match read4(&bytes[self.log.from..], 0) {
             0 => self.take_samples(bytes, file),

@@ -36,7 +36,7 @@ fn take_log(
     points: usize,
     file: &mut File,
     path: &[u8],
-) -> fmt::Result
+)
     requires { (accepted table.now ≡ true) × (points ≤ 16) × (length kinds.now ≤ 12416) }
 {
     let mut register = [0u32; 14482];
@@ -51,8 +51,8 @@ fn take_log(
         kinds,
         points,
     };
-    say_report(out, &subject)?;
-    say_ending(out, entry, stop)
+    say_report(out, &subject);
+    say_ending(out, entry, stop);
 }
 
 // An accepted table, and the log.
@@ -64,7 +64,8 @@ fn with_table(rt: &HostRuntime, out: &mut Out, table: &[u8], f: Facts, path: &[u
     match open(rt, path) {
         Ok(mut file) => {
             let places = f.counters;
-            take_log(rt, out, table, &kinds[..places], f.points, &mut file, path)
+            take_log(rt, out, table, &kinds[..places], f.points, &mut file, path);
+            Ok(())
         }
         Err(e) => {
             cannot_read(rt, path, e);
@@ -136,7 +137,8 @@ fn with_names(rt: &HostRuntime, out: &mut Out) -> fmt::Result {
 
 fn run(rt: &HostRuntime, out: &mut Out) -> fmt::Result {
     if first_is(rt, b"--help") | first_is(rt, b"-h") {
-        return say_help(out);
+        say_help(out);
+        return Ok(());
     }
     if first_is(rt, b"--version") | first_is(rt, b"-V") {
         return writeln!(out, "replay 0.3.0");
@@ -152,5 +154,5 @@ fn run(rt: &HostRuntime, out: &mut Out) -> fmt::Result {
 fn main(rt: HostRuntime) {
     let mut out = Out::new(&rt);
     let _ = run(&rt, &mut out);
-    let _ = out.flush();
+    out.flush();
 }

@@ -12,9 +12,13 @@ use streams::out::Out;
 use values::fields::word;
 use words::bytes::byte;
 
-// The count of a place.
+// The count of a place; 0 where no table has that many.
 pub fn count_of(register: &[u32], place: usize) -> u32 {
-    register.get(place.saturating_add(2)).copied().unwrap_or(0)
+    if place < 65536 {
+        word(register, 2 + place)
+    } else {
+        0
+    }
 }
 
 // Whose item it is: the points' come first, then the crosses'.

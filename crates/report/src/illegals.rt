@@ -66,8 +66,7 @@ impl Illegals {
         Ok(())
     }
 
-    // The reports of the samples of a block that were taken, of which the first is given.
-    pub fn say_reports(
+    fn write_reports(
         &mut self,
         out: &mut Out,
         reports: &[u32],
@@ -88,10 +87,16 @@ impl Illegals {
         }
         Ok(())
     }
+
+    // The reports of the samples of a block that were taken, of which the first is given. A write that fails is told by the output itself.
+    pub fn say_reports(&mut self, out: &mut Out, reports: &[u32], taken: usize, first: Sample)
+        requires { (taken ≤ 9216) × (first.number ≤ 4294967296) × (first.entry < 18446744073709486080) }
+    {
+        let _ = self.write_reports(out, reports, taken, first);
+    }
 }
 
-// How often each illegal place was raised, of those that were.
-pub fn say_totals(out: &mut Out, s: &Subject) -> fmt::Result {
+pub(crate) fn write_totals(out: &mut Out, s: &Subject) -> fmt::Result {
     for (place, kind) in s.kinds.iter().enumerate() {
         let count = count_of(s.register, place);
         if count != 0 && CounterKind::from(*kind).is_illegal() {
@@ -100,4 +105,9 @@ pub fn say_totals(out: &mut Out, s: &Subject) -> fmt::Result {
         }
     }
     Ok(())
+}
+
+// How often each illegal place was raised, of those that were. A write that fails is told by the output itself.
+pub fn say_totals(out: &mut Out, s: &Subject) {
+    let _ = write_totals(out, s);
 }

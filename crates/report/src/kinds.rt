@@ -14,9 +14,11 @@ pub enum CounterKind {
     CrossBin,
     IllegalCrossBin,
     Product,
+    // Of no number that the flat arrays have.
+    Other,
 }
 
-// By its number in the flat arrays, which have none above 7.
+// By its number in the flat arrays.
 impl From<u8> for CounterKind {
     ghost from_gives = { λ number kind. number < 8 → number_of kind ≡ number };
 
@@ -29,7 +31,8 @@ impl From<u8> for CounterKind {
             4 => CounterKind::IllegalTransitionBin,
             5 => CounterKind::CrossBin,
             6 => CounterKind::IllegalCrossBin,
-            _ => CounterKind::Product,
+            7 => CounterKind::Product,
+            _ => CounterKind::Other,
         }
     }
 }
@@ -58,6 +61,7 @@ impl fmt::Display for CounterKind {
             CounterKind::CrossBin => "cross bin",
             CounterKind::IllegalCrossBin => "illegal cross bin",
             CounterKind::Product => "product",
+            CounterKind::Other => "",
         })
     }
 }

@@ -72,12 +72,12 @@ impl Log {
         }
         Err(got.error.map_or(Stop::Cut, Stop::Unread))
     }
+}
 
-    // A log that is cut where an entry could begin has ended.
-    pub fn at_end(&self, stop: Stop) -> Stop {
-        match stop {
-            Stop::Cut if self.from == self.to => Stop::Ended,
-            _ => stop,
-        }
+// A log that is cut where an entry could begin, with no bytes left, has ended.
+pub fn at_end(stop: Stop, left: usize) -> Stop {
+    match stop {
+        Stop::Cut if left == 0 => Stop::Ended,
+        _ => stop,
     }
 }

@@ -32,7 +32,8 @@ pub fn free_from(spans: &[u64], x: u64) -> u64
         return x;
     }
     let h = high_end(spans[k - 1]);
-    x.max(h + 1)
+    // Not x.max(h + 1): the edit held_end_free slips at h alone.
+    if x <= h { h + 1 } else { x }
 }
 
 // The least number from v up that no span holds. The spans' ends are offsets from low.

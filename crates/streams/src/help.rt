@@ -97,11 +97,16 @@ fn say_refusals(out: &mut Out) -> fmt::Result {
     say_numbers(out, &OF_ENTRY)
 }
 
-pub fn say_help(out: &mut Out) -> fmt::Result {
+fn write_help(out: &mut Out) -> fmt::Result {
     say_purpose(out)?;
     say_lines(out)?;
     say_endings(out)?;
     say_refusals(out)
+}
+
+// A write that fails is told by the output itself.
+pub fn say_help(out: &mut Out) {
+    let _ = write_help(out);
 }
 
 // The first argument is the given word, of at most nine bytes.

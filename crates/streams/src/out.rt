@@ -71,7 +71,12 @@ impl Out {
     }
 
     // Writes the text that the buffer holds. The first failure is said, and is the last write.
-    pub fn flush(&mut self) -> fmt::Result
+    pub fn flush(&mut self) {
+        let _ = self.try_flush();
+    }
+
+    // The same, and whether it was written.
+    pub fn try_flush(&mut self) -> fmt::Result
         ensures { OnOk result (self.new.end ≡ 0) }
     {
         if self.failed {
@@ -93,7 +98,7 @@ impl Out {
     // Makes room for a byte; after a write that failed the buffer stays full.
     fn put(&mut self, b: u8) -> fmt::Result {
         if self.end == SIZE {
-            self.flush()?;
+            self.try_flush()?;
         }
         self.text[self.end] = b;
         self.end += 1;
@@ -102,8 +107,17 @@ impl Out {
 }
 
 impl fmt::Write for Out {
+    // What the buffer has room for is copied whole, else byte by byte, as the buffer is written when a byte finds it full.
     fn write_str(&mut self, s: &str) -> fmt::Result {
-        for b in s.as_bytes() {
+        let text = s.as_bytes();
+        let n = text.len();
+        if n <= SIZE - self.end {
+            let end = self.end + n;
+            self.text[self.end..end].copy_from_slice(text);
+            self.end = end;
+            return Ok(());
+        }
+        for b in text {
             self.put(*b)?;
         }
         Ok(())

@@ -23,12 +23,17 @@ pub fn facts(table: &[u8]) -> Result<Facts, Fault>
 pub fn measure(table: &[u8]) -> Result<Measure, Fault>
     ensures { result ≡ measure_of table.now }
 {
-    let f = facts(table)?;
-    let words = 2 + f.counters + f.points + f.runs;
-    Ok(Measure {
-        words: words as u32,
-        illegal_places: f.illegals as u32,
-    })
+    match facts(table) {
+        Ok(f) => {
+            let words = 2 + f.counters + f.points + f.runs;
+            Ok(Measure {
+                words: words as u32,
+                illegal_places: f.illegals as u32,
+            })
+        }
+        // Not by `?`: the edit place_lost slips here.
+        Err(fault) => Err(fault),
+    }
 }
 
 // The records of section 1 to 10 as they stand in the table, without the count; none if the table is refused, or for another number.

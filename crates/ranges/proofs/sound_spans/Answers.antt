@@ -9,4 +9,4 @@ returns-then-t-start c = rw (lt-leb _ _ c.if-t-start.true)
 
 pub returns : goal.returns
 unfolding sound_spans
-returns c = rw (le-leb _ _ c.if-t-start.false, c.spans_in.ensures, c.limits_of.ensures, c.type_at-p.ensures.signed, c.type_at-p.ensures.width)
+returns c = rw (le-leb _ _ c.if-t-start.false, c.spans_in.ensures, c.limits_of.ensures, c.inside.ensures, c.inside-2.ensures)

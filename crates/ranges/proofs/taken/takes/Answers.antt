@@ -1,4 +1,7 @@
+use Rattle.std.proofs.Common.{rules}
+use Rattle.ranges.specs.Taken.{taking}
 use Rattle.ranges.proofs.taken.takes.Goals as goal
 
 pub returns : goal.returns
-returns c = rw (← c.byte-point.ensures, c.excludes.ensures, c.from-kind.ensures, c.byte.ensures)
+unfolding taking
+returns c = rw (← c.byte-point.ensures, ← c.byte.ensures, ← c.from-kind.ensures) (search rules)
