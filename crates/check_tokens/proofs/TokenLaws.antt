@@ -13,7 +13,7 @@ use lib.ListN.{length, get_or}
 use borrow.Author.Rules.{rules}
 use borrow.Author.Tests.{ltb-true, ltb-false, eqb-true, lt-leb, le-leb, eq-eqb}
 use Rattle.model.specs.Table.{Point, Select, negated, no_point, is_cover}
-use Rattle.model.specs.Format.{Test, disagreement, byte, u16, u64, point_record, BinHead, bin_head, no_bin_head, value_tests, cross_points, cover_bin_of, token_rules, token_tests, token_record, token_from, Token, leaf, not_token, and_token, or_token, is_leaf, with_token, expressions}
+use Rattle.model.specs.Format.{Test, field, unused, disagreement, byte, u16, u64, point_record, BinHead, bin_head, no_bin_head, value_tests, cross_points, cover_bin_of, token_rules, token_tests, token_record, token_from, Token, leaf, not_token, and_token, or_token, is_leaf, with_token, expressions}
 use Rattle.model.specs.Raw.{rows, points_at}
 use Rattle.model.specs.Values.{field_value}
 use Rattle.model.proofs.Booleans.{false-true, or-false-right}
@@ -24,7 +24,7 @@ use Rattle.model.proofs.Fields.{cover-kind}
 use Rattle.model.proofs.Lists.{none_left, one_left, length-row, get_d-row}
 use Rattle.ranges.specs.Types.{typed}
 use Rattle.check_tokens.specs.Tokens.{CrossOk, name_fields, value_fields, found, wanted_after, lacks}
-use Rattle.words.proofs.Laws.{tests, tests_stop, tests_on, verdict_in-append}
+use Rattle.words.proofs.Laws.{passing, tests, tests_stop, tests_on, verdict_in-append}
 
 -- ---- the point at a position
 
@@ -105,6 +105,16 @@ pub fields_on : {A : Type 0} (parts : ℕ) (p : Point) (op position b lo hi : �
     → r ≡ verdict_in (token_rules parts p op position b lo hi names at) rest
 unfolding token_rules name_fields value_fields
 fields_on parts p op position b lo hi names at rest r h e = some_on rest (value_fields p op lo hi at ++ (not (eqb op 1) || names, disagreement, at) ∷ []) (name_fields parts op position b at) r h e
+
+-- the bools of those tests, as the code has them
+pub name_passing : (parts op position b at : ℕ) → ((leb op 5 && cond (leb op 2) (ltb position parts) (eqb position 0)) && (eqb op 1 || eqb b 0)) ≡ passing true (name_fields parts op position b at)
+unfolding passing name_fields
+name_passing parts op position b at = go (leb op 2)
+  where
+    go : (l : Bool) → ((leb op 5 && cond l (ltb position parts) (eqb position 0)) && (eqb op 1 || eqb b 0))
+        ≡ passing true ((leb op 5, field, at) ∷ cond l (ltb position parts, field, at + 1) (eqb position 0, unused, at + 1) ∷ (eqb op 1 || eqb b 0, unused, at + 2) ∷ [])
+    go true = refl
+    go false = refl
 
 -- a point's type is its width and its sign
 pub values-typed : (p : Point) (a b at : ℕ) → value_tests p a b at ≡ value_tests (typed p.width p.signed) a b at

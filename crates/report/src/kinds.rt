@@ -1,5 +1,5 @@
 // What a counter is.
-ghost use Rattle.std.specs.Prelude.{◌≡◌, ◌<◌, Some};
+ghost use Rattle.std.specs.Prelude.{◌≡◌, cond, ltb, Some};
 ghost use Rattle.report.specs.Kinds.{kind_text, number_of};
 
 use std::fmt;
@@ -20,7 +20,7 @@ pub enum CounterKind {
 
 // By its number in the flat arrays.
 impl From<u8> for CounterKind {
-    ghost from_gives = { λ number kind. number < 8 → number_of kind ≡ number };
+    ghost from_gives = { λ number kind. number_of kind ≡ cond (ltb number 8) number 8 };
 
     fn from(number: u8) -> Self {
         match number {
