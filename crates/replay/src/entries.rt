@@ -72,7 +72,7 @@ impl<'o, 't, 'r> Replay<'o, 't, 'r> {
         );
         // Where a write fails, the log is still taken to its end.
         self.illegals
-            .say_reports(self.out, &self.reports, t.taken, first);
+            .print_reports(self.out, &self.reports, t.taken, first);
         if let Err(refusal) = t.end {
             self.log.pass(0, t.taken);
             return Err(Stop::Refused(u32::from(refusal)));

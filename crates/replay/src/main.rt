@@ -8,8 +8,8 @@ ghost use Rattle.model.specs.Format.{accepted};
 ghost use Rattle.table.specs.Check.{Few};
 
 use crate::entries::take_all;
-use report::ending::say_ending;
-use report::{Subject, say_report};
+use report::Subject;
+use report::printing::{print_ending, print_report};
 use sample_log::state::Stop;
 use sampling::put_kinds;
 use std::env::Env;
@@ -51,8 +51,8 @@ fn take_log(
         kinds,
         points,
     };
-    say_report(out, &subject);
-    say_ending(out, entry, stop);
+    print_report(out, &subject);
+    print_ending(out, entry, stop);
 }
 
 // An accepted table, and the log.

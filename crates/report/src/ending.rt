@@ -5,7 +5,8 @@ use std::fmt::Write;
 use streams::out::Out;
 use streams::text::Refusal;
 
-fn write_ending(out: &mut Out, entry: u64, stop: Option<Stop>) -> fmt::Result {
+// Why the log was taken no further than to an entry; without a stop the numbers of entries were used up. Err is a write that failed, which the output itself has told.
+pub fn say_ending(out: &mut Out, entry: u64, stop: Option<Stop>) -> fmt::Result {
     match stop {
         Some(Stop::Ended) => writeln!(out, "end of report"),
         Some(Stop::Cut) => writeln!(out, "partial report: log cut at entry {entry}"),
@@ -21,9 +22,4 @@ fn write_ending(out: &mut Out, entry: u64, stop: Option<Stop>) -> fmt::Result {
             writeln!(out, "partial report: log not read on from entry {entry}")
         }
     }
-}
-
-// Why the log was taken no further than to an entry; without a stop the numbers of entries were used up. A write that fails is told by the output itself.
-pub fn say_ending(out: &mut Out, entry: u64, stop: Option<Stop>) {
-    let _ = write_ending(out, entry, stop);
 }

@@ -66,7 +66,8 @@ impl Illegals {
         Ok(())
     }
 
-    fn write_reports(
+    // The reports of the samples of a block that were taken, of which the first is given. Err is a write that failed, which the output itself has told.
+    pub fn say_reports(
         &mut self,
         out: &mut Out,
         reports: &[u32],
@@ -87,16 +88,10 @@ impl Illegals {
         }
         Ok(())
     }
-
-    // The reports of the samples of a block that were taken, of which the first is given. A write that fails is told by the output itself.
-    pub fn say_reports(&mut self, out: &mut Out, reports: &[u32], taken: usize, first: Sample)
-        requires { (taken ≤ 9216) × (first.number ≤ 4294967296) × (first.entry < 18446744073709486080) }
-    {
-        let _ = self.write_reports(out, reports, taken, first);
-    }
 }
 
-pub(crate) fn write_totals(out: &mut Out, s: &Subject) -> fmt::Result {
+// How often each illegal place was raised, of those that were. Err is a write that failed, which the output itself has told.
+pub fn say_totals(out: &mut Out, s: &Subject) -> fmt::Result {
     for (place, kind) in s.kinds.iter().enumerate() {
         let count = count_of(s.register, place);
         if count != 0 && CounterKind::from(*kind).is_illegal() {
@@ -105,9 +100,4 @@ pub(crate) fn write_totals(out: &mut Out, s: &Subject) -> fmt::Result {
         }
     }
     Ok(())
-}
-
-// How often each illegal place was raised, of those that were. A write that fails is told by the output itself.
-pub fn say_totals(out: &mut Out, s: &Subject) {
-    let _ = write_totals(out, s);
 }

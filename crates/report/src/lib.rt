@@ -6,12 +6,13 @@ pub mod ending;
 pub mod illegals;
 mod items;
 mod kinds;
+pub mod printing;
 
 ghost use Rattle.std.specs.Prelude.{◌≡◌, true};
 ghost use Rattle.model.specs.Format.{accepted};
 
 use crate::counters::say_counters;
-use crate::illegals::write_totals;
+use crate::illegals::say_totals;
 use crate::items::{say_group, say_items, say_unknowns};
 use layout::layout_of;
 use std::fmt;
@@ -37,21 +38,15 @@ fn say_state(out: &mut Out, register: &[u32]) -> fmt::Result {
     }
 }
 
-fn write_report(out: &mut Out, s: &Subject) -> fmt::Result
+// All lines but the last. Err is a write that failed, which the output itself has told.
+pub fn say_report(out: &mut Out, s: &Subject) -> fmt::Result
     requires { accepted s.now.table.now ≡ true }
 {
     let l = layout_of(s.table);
-    write_totals(out, s)?;
+    say_totals(out, s)?;
     say_state(out, s.register)?;
     say_counters(out, s)?;
     say_unknowns(out, s)?;
     say_items(out, s, l.point_count + l.cross_count)?;
     say_group(out, s)
-}
-
-// All lines but the last. A write that fails is told by the output itself.
-pub fn say_report(out: &mut Out, s: &Subject)
-    requires { accepted s.now.table.now ≡ true }
-{
-    let _ = write_report(out, s);
 }
