@@ -30,6 +30,11 @@ pub fn reason(number: u32) -> &'static str {
     }
 }
 
+/// What it writes to standard error at its first write that fails.
+pub fn cannot_write(why: &str) -> String {
+    format!("replay: cannot write: {why}\n")
+}
+
 /// An entry of a log.
 #[derive(Clone, Debug, PartialEq, Eq)]
 pub enum Entry {

@@ -7,7 +7,7 @@ use compare::builder::{
     sequence, value, Cross, Form, Point, Range, Table, TransitionBin, ValueBin,
 };
 use compare::random::{self, Caller, Rng};
-use compare::replay::{log, reason, replay, replay_until, After, Entry};
+use compare::replay::{cannot_write, log, reason, replay, replay_until, After, Entry};
 use compare::table::{VALUE_BINS, VALUE_RANGES};
 use std::collections::BTreeMap;
 use std::ffi::OsStr;
@@ -702,10 +702,6 @@ fn reads_that_fail() {
     let settings = [("READ_PASSING", EAGAIN)];
     let (_, err) = meddled.run(&table, &log, &settings);
     assert_eq!(err, cannot(&table, "Resource temporarily unavailable"));
-}
-
-fn cannot_write(why: &str) -> String {
-    format!("replay: cannot write: {why}\n")
 }
 
 /// Writes that move a part, that pass after another try, and that fail: nothing is written after.

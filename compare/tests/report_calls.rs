@@ -2,6 +2,7 @@
 //! `report_calls` calls them: its exit status has a bit for each that answered Err,
 //! 1 the reports of samples, 2 the totals, 4 the report, 8 the last line.
 
+use compare::replay::cannot_write;
 use std::fs;
 use std::process::{Command, Output, Stdio};
 
@@ -38,9 +39,8 @@ fn full() -> Stdio {
 
 /// Each of the four outputs says its first failure.
 fn four_failures(output: &Output) {
-    let line = "replay: cannot write: No space left on device\n";
     let err = String::from_utf8_lossy(&output.stderr);
-    assert_eq!(err, line.repeat(4));
+    assert_eq!(err, cannot_write("No space left on device").repeat(4));
 }
 
 #[test]

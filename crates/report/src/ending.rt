@@ -5,7 +5,7 @@ use std::fmt::Write;
 use streams::out::Out;
 use streams::text::Refusal;
 
-// Why the log was taken no further than to an entry; without a stop the numbers of entries were used up. Err is a write that failed, which the output itself has told.
+// Why the log was taken no further than to an entry; without a stop the numbers of entries were used up.
 pub fn say_ending(out: &mut Out, entry: u64, stop: Option<Stop>) -> fmt::Result {
     match stop {
         Some(Stop::Ended) => writeln!(out, "end of report"),

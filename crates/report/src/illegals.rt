@@ -66,7 +66,7 @@ impl Illegals {
         Ok(())
     }
 
-    // The reports of the samples of a block that were taken, of which the first is given. Err is a write that failed, which the output itself has told.
+    // The reports of the samples of a block that were taken, of which the first is given.
     pub fn say_reports(
         &mut self,
         out: &mut Out,
@@ -90,7 +90,7 @@ impl Illegals {
     }
 }
 
-// How often each illegal place was raised, of those that were. Err is a write that failed, which the output itself has told.
+// How often each illegal place was raised, of those that were.
 pub fn say_totals(out: &mut Out, s: &Subject) -> fmt::Result {
     for (place, kind) in s.kinds.iter().enumerate() {
         let count = count_of(s.register, place);

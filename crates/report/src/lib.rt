@@ -1,4 +1,4 @@
-// The report on a register.
+// The report on a register. Err is a write that failed, now or before; the output itself tells it.
 #![tactic(auto)]
 
 mod counters;
@@ -38,7 +38,7 @@ fn say_state(out: &mut Out, register: &[u32]) -> fmt::Result {
     }
 }
 
-// All lines but the last. Err is a write that failed, which the output itself has told.
+// All lines but the last.
 pub fn say_report(out: &mut Out, s: &Subject) -> fmt::Result
     requires { accepted s.now.table.now ≡ true }
 {

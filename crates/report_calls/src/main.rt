@@ -42,24 +42,13 @@ fn reports(out: &mut Out) -> fmt::Result {
     illegals.say_reports(out, &[1, 0, 1], 3, first)
 }
 
-fn call(out: &mut Out, s: &Subject, i: u32) -> fmt::Result
-    requires { accepted s.now.table.now ≡ true }
-{
-    match i {
-        0 => reports(out),
-        1 => say_totals(out, s),
-        2 => say_report(out, s),
-        _ => say_ending(out, 5, Some(Stop::Cut)),
-    }
-}
-
-// Whether one of so many calls, on an output of their own, answered Err.
-fn fails(rt: &HostRuntime, s: &Subject, i: u32, calls: u32) -> bool
-    requires { accepted s.now.table.now ≡ true }
+// Whether one of so many calls of a function, on an output of their own, answered Err.
+fn fails<F: FnMut(&mut Out) -> fmt::Result>(rt: &HostRuntime, calls: u32, mut call: F) -> bool
+    requires { F.IsAlwaysCallable call }
 {
     let mut out = Out::new(rt);
     for _ in 0..calls {
-        if call(&mut out, s, i).is_err() {
+        if call(&mut out).is_err() {
             return true;
         }
     }
@@ -71,13 +60,18 @@ fn fails(rt: &HostRuntime, s: &Subject, i: u32, calls: u32) -> bool
 fn failed(rt: &HostRuntime, s: &Subject, calls: u32) -> u8
     requires { accepted s.now.table.now ≡ true }
 {
-    let mut bits = 0u8;
-    for i in 0..4u32 {
-        if fails(rt, s, i, calls) {
-            bits |= 1 << i;
-        }
-    }
-    bits
+    let of_reports = fails(rt, calls, reports);
+    let of_totals = fails(rt, calls, |out: &mut Out| say_totals(out, s));
+    let of_report = fails(rt, calls, |out: &mut Out| say_report(out, s));
+    let of_ending = fails(
+        rt,
+        calls,
+        |out: &mut Out| say_ending(out, 5, Some(Stop::Cut)),
+    );
+    u8::from(of_reports)
+        | u8::from(of_totals) << 1
+        | u8::from(of_report) << 2
+        | u8::from(of_ending) << 3
 }
 
 // Each is called once; with an argument so often that its buffer fills and is written.
